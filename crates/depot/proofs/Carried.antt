@@ -1,5 +1,5 @@
 -- A task from the open of its files to their close.
-use Rattle.std.proofs.Common.{◌≡◌, ◌⊎◌, ◌≤◌, inl, inr, IsTrue, Option, Some, None, Result, Ok, Err, refl, sym, arith}
+use Rattle.std.proofs.Common.{◌≡◌, ◌⊎◌, ◌≤◌, inl, inr, IsTrue, Option, Some, None, Result, Ok, Err, IfErr, refl, sym, arith}
 use Rattle.sqlite_disk.specs.declared.Disk.{Ghosts}
 use Rattle.sqlite_disk.specs.declared.Files.{Files}
 use Rattle.sqlite_trees.specs.Tree.{Trees}
@@ -15,8 +15,8 @@ use Rattle.refusals.specs.declared.refusal.Refusal.{Refusal}
 use Rattle.depot_cli.specs.Carrying.{HasCarried, OutlastsCarrying}
 use Rattle.depot_actions.specs.Applying.{MayAdd}
 use Rattle.depot_cli.specs.Tasks.{HasPerformed, store_and_outputs}
-use Rattle.depot.specs.Ending.{HasCounted, IsToldAs}
-use Rattle.depot.specs.Private.{IsFound, IsLeftOf, IsShut}
+use Rattle.depot.specs.Ending.{HasCounted, IsFound}
+use Rattle.depot.specs.Private.{IsShut}
 use Rattle.depot.specs.Tasks.{Answer, HasEnded, IsAnswered, IsKept}
 use Rattle.depot.proofs.Ended.{Came, at_state, ends, left_by, left_open, refused_by, still_at}
 
@@ -95,25 +95,14 @@ module _ {D : Type 0} (g : Ghosts D) where
 
   -- a task was carried to what opening gave, which was closed then
   pub ended : (opened mid : Result (Held (FileStore D g)) Refusal) (left : Option (Result (Files D) (FileStore D g))) → ((file : D) → g.may_leave file (g.seen file))
-      → (it : Answer) (image : Image) → IsFound image opened
+      → (Gave : Refusal → Type 0) (it : Answer) (image : Image) → IsFound image opened → IfErr opened Gave
       → HasCarried file_state it.command it.status opened mid it.out it.err it.out_after it.err_after → OutlastsCarrying file_state it.command opened mid
-      → IsShut mid left → HasEnded it image left
-  ended (Ok old) (Ok new) left stays it image found carried survives shut =
+      → IsShut mid left → HasEnded it Gave image left
+  ended (Ok old) (Ok new) left stays Gave it image found gave carried survives shut =
       ends g (IsAnswered it image) (λ left before after answered held. IsKept it.command before after held) Refusal _ (HoldsState image) new left shut (λ left counted clean before stood.
       let early : HasCleanDisk (file_state old) = omega (arith, clean, survives.clean) in
       came old new stays it image left before found counted (at_state image old found early before stood) clean carried survives)
-  ended (Ok old) (Err refusal) left stays it image found carried survives shut = absurd carried
-  ended (Err refusal) (Ok new) left stays it image found carried survives shut = absurd carried
-  ended (Err refusal) (Err same) None stays it image found carried survives shut = (refusal, found, (carried.1, carried.2, carried.3))
-  ended (Err refusal) (Err same) (Some left) stays it image found carried survives shut = absurd shut
-
-  -- it is left, or the refusal of opening was told
-  pub told : (opened mid : Result (Held (FileStore D g)) Refusal) (left : Option (Result (Files D) (FileStore D g))) → (it : Answer)
-      → HasCarried file_state it.command it.status opened mid it.out it.err it.out_after it.err_after → IsShut mid left
-      → IsLeftOf (λ e. IsToldAs e it.status it.out it.err it.out_after it.err_after) opened left
-  told (Ok old) (Ok new) (Some left) it carried shut = tt
-  told (Ok old) (Ok new) None it carried shut = absurd shut
-  told (Ok old) (Err refusal) left it carried shut = absurd carried
-  told (Err refusal) (Ok new) left it carried shut = absurd carried
-  told (Err refusal) (Err same) None it carried shut = (carried.1, carried.2, carried.3)
-  told (Err refusal) (Err same) (Some left) it carried shut = absurd shut
+  ended (Ok old) (Err refusal) left stays Gave it image found gave carried survives shut = absurd carried
+  ended (Err refusal) (Ok new) left stays Gave it image found gave carried survives shut = absurd carried
+  ended (Err refusal) (Err same) None stays Gave it image found gave carried survives shut = (refusal, gave, found, (carried.1, carried.2, carried.3))
+  ended (Err refusal) (Err same) (Some left) stays Gave it image found gave carried survives shut = absurd shut

@@ -1,5 +1,6 @@
 -- What is left of files that were opened, by what was done with the depot and how it was closed.
 use Rattle.std.proofs.Common.{◌≡◌, ◌⊎◌, ◌≤◌, ℕ, Bool, true, false, inl, inr, IsTrue, Option, Some, None, Result, Ok, Err, IfOk, IfErr, refl, sym, subst, ◌∙◌, arith}
+use Rattle.std.specs.Prelude.{⊤}
 use Rattle.std.proofs.Math.Logic.{∥∥₁_map}
 use Rattle.sqlite_disk.specs.declared.Disk.{Ghosts}
 use Rattle.sqlite_disk.specs.declared.Files.{Files}
@@ -27,8 +28,8 @@ use Rattle.refusals.specs.declared.refusal.Refusal.TheVariants.{Memory, Database
 use Rattle.depot_actions.specs.Applying.{HasFault, MayAdd, Unless, only_looks}
 use Rattle.depot_actions.specs.Causes.{HasCause, MayRefuse}
 use Rattle.depot_actions.specs.DepotState.{Command, MayLeave}
-use Rattle.depot.specs.Ending.{EndsSo, HasCounted, HoldsKept, IsRefusal, IsRefusedBy}
-use Rattle.depot.specs.Private.{IsFound, IsSeen, IsShut}
+use Rattle.depot.specs.Ending.{EndsSo, HasCounted, HoldsKept, IsFound, IsRefusal, IsRefusedBy, IsSeen}
+use Rattle.depot.specs.Private.{IsShut}
 
 -- what a crash may leave of a command is what the command leaves
 pub left_by : (command : Command) (old : State) (trees : Trees) → MayAdd command old trees → MayLeave command old trees
@@ -148,6 +149,11 @@ pub seen_in : {D : Type 0} {g : Ghosts D} (image : Image) (opened : Result (Held
     → TellsWhy image opened → IsSeen image opened
 seen_in image (Ok depot) finds unlimited found cause = (finds, unlimited, found)
 seen_in image (Err why) finds unlimited found cause = cause
+
+-- where nothing is said of a refusal
+pub any_refusal : {A E : Type 0} (opened : Result A E) → IfErr opened (λ e. ⊤)
+any_refusal (Ok depot) = tt
+any_refusal (Err e) = tt
 
 -- a depot whose files were closed, and one whose close failed
 pub shut_done : {D E : Type 0} {g : Ghosts D} (opened : Result (Held (FileStore D g)) E) (depot whole : Held (FileStore D g)) (files : Files D) → opened ≡ Ok depot → whole ≡ depot

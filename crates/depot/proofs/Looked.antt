@@ -1,5 +1,5 @@
 -- A look from the open of the files to their close.
-use Rattle.std.proofs.Common.{◌≡◌, inl, inr, IsTrue, Option, Some, None, Result, Ok, Err, refl, arith}
+use Rattle.std.proofs.Common.{◌≡◌, inl, inr, IsTrue, Option, Some, None, Result, Ok, Err, IfErr, refl, arith}
 use Rattle.sqlite_disk.specs.declared.Disk.{Ghosts}
 use Rattle.sqlite_disk.specs.declared.Files.{Files}
 use Rattle.sqlite.specs.declared.FileStore.{FileStore}
@@ -10,12 +10,11 @@ use Rattle.sqlite.specs.State.{HasCleanDisk, Survives}
 use Rattle.part_store.specs.Entries.{Entries}
 use Rattle.part_store.specs.Opening.{HoldsStore, IsAt, IsFoundIn}
 use Rattle.part_store.specs.declared.looking.Unopened.{Unopened}
-use Rattle.depot_cli.specs.Carrying.{HasReported, HasToldWhy, OutlastsReporting}
+use Rattle.depot_cli.specs.Carrying.{HasReported, OutlastsReporting}
 use Rattle.depot_cli.specs.Looking.{HasLooked}
-use Rattle.depot_cli.specs.NoDepots.{no_depot_of}
 use Rattle.depot_cli.specs.Tasks.{store_and_outputs}
-use Rattle.depot.specs.Private.{IsLeftOf, IsSeen, IsShut}
-use Rattle.depot.specs.Ending.{HasCounted}
+use Rattle.depot.specs.Ending.{HasCounted, IsSeen}
+use Rattle.depot.specs.Private.{IsShut}
 use Rattle.depot.specs.Looks.{Answer, HasEnded, IsAnswered, IsUntold}
 use Rattle.depot.proofs.Ended.{Came, ends, still_at, unchanged}
 
@@ -61,25 +60,14 @@ module _ {D : Type 0} (g : Ghosts D) where
 
   -- what opening gave was looked at, and closed then
   pub ended : (opened mid : Result (Held (FileStore D g)) Unopened) (left : Option (Result (Files D) (FileStore D g))) → ((file : D) → g.may_leave file (g.seen file))
-      → (it : Answer) (image : Image) → IsSeen image opened
+      → (Gave : Unopened → Type 0) (it : Answer) (image : Image) → IsSeen image opened → IfErr opened Gave
       → HasReported file_state it.look it.status opened mid it.out it.err it.out_after it.err_after → OutlastsReporting file_state opened mid
-      → IsShut mid left → HasEnded it image left
-  ended (Ok old) (Ok new) left stays it image found reported survives shut =
+      → IsShut mid left → HasEnded it Gave image left
+  ended (Ok old) (Ok new) left stays Gave it image found gave reported survives shut =
       ends g (λ left. IsAnswered image left it) (λ left before after answered held. held ≡ before) Unopened _ (HoldsStore image) new left shut (λ left counted clean before stood.
       let early : HasCleanDisk (file_state old) = omega (arith, clean, survives.clean) in
       came image left old new stays it before found counted (found.2 early before stood) clean reported survives)
-  ended (Ok old) (Err why) left stays it image found reported survives shut = absurd reported
-  ended (Err why) (Ok new) left stays it image found reported survives shut = absurd reported
-  ended (Err why) (Err same) None stays it image found reported survives shut = (why, found, reported.1, reported.2)
-  ended (Err why) (Err same) (Some left) stays it image found reported survives shut = absurd shut
-
-  -- it is left, or it was told why nothing is
-  pub told : (opened mid : Result (Held (FileStore D g)) Unopened) (left : Option (Result (Files D) (FileStore D g))) → (it : Answer)
-      → HasReported file_state it.look it.status opened mid it.out it.err it.out_after it.err_after → IsShut mid left
-      → IsLeftOf (λ why. (it.status ≡ 1) × HasToldWhy it.look (no_depot_of why) it.out it.err it.out_after it.err_after) opened left
-  told (Ok old) (Ok new) (Some left) it reported shut = tt
-  told (Ok old) (Ok new) None it reported shut = absurd shut
-  told (Ok old) (Err why) left it reported shut = absurd reported
-  told (Err why) (Ok new) left it reported shut = absurd reported
-  told (Err why) (Err same) None it reported shut = (reported.1, reported.2)
-  told (Err why) (Err same) (Some left) it reported shut = absurd shut
+  ended (Ok old) (Err why) left stays Gave it image found gave reported survives shut = absurd reported
+  ended (Err why) (Ok new) left stays Gave it image found gave reported survives shut = absurd reported
+  ended (Err why) (Err same) None stays Gave it image found gave reported survives shut = (why, gave, found, reported.1, reported.2)
+  ended (Err why) (Err same) (Some left) stays Gave it image found gave reported survives shut = absurd shut

@@ -1,5 +1,5 @@
 -- Saving a program from the open of the files to their close.
-use Rattle.std.proofs.Common.{◌≡◌, ◌⊎◌, ◌≤◌, inl, inr, IsTrue, List, ℕ, Option, Some, None, Result, Ok, Err, refl, subst, arith}
+use Rattle.std.proofs.Common.{◌≡◌, ◌⊎◌, ◌≤◌, inl, inr, IsTrue, List, ℕ, Option, Some, None, Result, Ok, Err, IfErr, refl, subst, arith}
 use Rattle.sqlite_disk.specs.declared.Disk.{Ghosts}
 use Rattle.sqlite_disk.specs.declared.Files.{Files}
 use Rattle.sqlite.specs.declared.FileStore.{FileStore}
@@ -12,8 +12,8 @@ use Rattle.part_store.specs.Opening.{HoldsState, IsAt, IsReadyFrom}
 use Rattle.refusals.specs.declared.refusal.Refusal.{Refusal}
 use Rattle.depot_actions.specs.DepotState.{Accepts, Program, ProgramOf}
 use Rattle.depot_cli.specs.Saving.{HasGiven, HasNotSaved, HasSaved, HasServed, OutlastsSaving}
-use Rattle.depot.specs.Ending.{HasCounted, IsToldAs}
-use Rattle.depot.specs.Private.{IsFound, IsLeftOf, IsShut}
+use Rattle.depot.specs.Ending.{HasCounted, IsFound}
+use Rattle.depot.specs.Private.{IsShut}
 use Rattle.depot.specs.Programs.{HasEnded, IsAnswered, Save, Tells}
 use Rattle.depot.proofs.Ended.{Came, at_state, ends, refused_by, still_at, unchanged}
 
@@ -67,24 +67,13 @@ module _ {D : Type 0} (g : Ghosts D) where
 
   -- a program was saved from what opening gave, which was closed then
   pub ended : (opened mid : Result (Held (FileStore D g)) Refusal) (left : Option (Result (Files D) (FileStore D g))) → ((file : D) → g.may_leave file (g.seen file))
-      → (it : Save) (image : Image) → IsFound image opened → HasServed file_state it.saving it.status opened mid it.old it.new → OutlastsSaving file_state opened mid
-      → IsShut mid left → HasEnded it image left
-  ended (Ok old) (Ok new) left stays it image found served survives shut =
+      → (Gave : Refusal → Type 0) (it : Save) (image : Image) → IsFound image opened → IfErr opened Gave → HasServed file_state it.saving it.status opened mid it.old it.new → OutlastsSaving file_state opened mid
+      → IsShut mid left → HasEnded it Gave image left
+  ended (Ok old) (Ok new) left stays Gave it image found gave served survives shut =
       ends g (λ left. IsAnswered image left it) (λ left before after answered held. held ≡ before) Refusal _ (HoldsState image) new left shut (λ left counted clean before stood.
       let early : HasCleanDisk (file_state old) = omega (arith, clean, survives.clean) in
       came image left old new stays it before found counted (at_state image old found early before stood) clean served survives)
-  ended (Ok old) (Err refusal) left stays it image found served survives shut = absurd served
-  ended (Err refusal) (Ok new) left stays it image found served survives shut = absurd served
-  ended (Err refusal) (Err same) None stays it image found served survives shut = ((refusal, found, (served.1, served.2, served.3)), served.4)
-  ended (Err refusal) (Err same) (Some left) stays it image found served survives shut = absurd shut
-
-  -- it is left, or the refusal of opening was told
-  pub told : (opened mid : Result (Held (FileStore D g)) Refusal) (left : Option (Result (Files D) (FileStore D g))) → (it : Save)
-      → HasServed file_state it.saving it.status opened mid it.old it.new → IsShut mid left
-      → IsLeftOf (λ e. IsToldAs e it.status it.old.out it.old.err it.new.out it.new.err) opened left
-  told (Ok old) (Ok new) (Some left) it served shut = tt
-  told (Ok old) (Ok new) None it served shut = absurd shut
-  told (Ok old) (Err refusal) left it served shut = absurd served
-  told (Err refusal) (Ok new) left it served shut = absurd served
-  told (Err refusal) (Err same) None it served shut = (served.1, served.2, served.3)
-  told (Err refusal) (Err same) (Some left) it served shut = absurd shut
+  ended (Ok old) (Err refusal) left stays Gave it image found gave served survives shut = absurd served
+  ended (Err refusal) (Ok new) left stays Gave it image found gave served survives shut = absurd served
+  ended (Err refusal) (Err same) None stays Gave it image found gave served survives shut = ((refusal, gave, found, (served.1, served.2, served.3)), served.4)
+  ended (Err refusal) (Err same) (Some left) stays Gave it image found gave served survives shut = absurd shut

@@ -1,5 +1,5 @@
 -- A batch from the open of its files to their close.
-use Rattle.std.proofs.Common.{◌≡◌, ◌⊎◌, ◌<◌, inl, inr, IsTrue, ℕ, List, length, Option, Some, None, Result, Ok, Err, refl, sym, subst, arith}
+use Rattle.std.proofs.Common.{◌≡◌, ◌⊎◌, ◌<◌, inl, inr, IsTrue, ℕ, List, length, Option, Some, None, Result, Ok, Err, IfErr, refl, sym, subst, arith}
 use Rattle.sqlite_disk.specs.declared.Disk.{Ghosts}
 use Rattle.sqlite_disk.specs.declared.Files.{Files}
 use Rattle.sqlite_trees.specs.Tree.{Trees}
@@ -23,8 +23,8 @@ use Rattle.depot_batch.specs.Turns.{Alone, Broken, Together, Turn, Whole, Withdr
 use Rattle.depot_batch.specs.declared.asked.Asked.TheVariants.{Reply as ToReply, Export as IntoFile}
 use Rattle.depot_batch.proofs.Grouping.{as_many}
 use Rattle.depot.specs.Batches.{Batch, Did, Happens, HasEnded, IsKept, IsServed, MakeAll, MakesIn, MakesOf}
-use Rattle.depot.specs.Ending.{HasCounted, IsToldAs}
-use Rattle.depot.specs.Private.{IsFound, IsLeftOf, IsShut}
+use Rattle.depot.specs.Ending.{HasCounted, IsFound}
+use Rattle.depot.specs.Private.{IsShut}
 use Rattle.depot.proofs.Chained.{Follows, both, sound_first}
 use Rattle.depot.proofs.Ended.{Came, at_state, ends, fewer, left_by, left_open}
 use Rattle.depot.proofs.Turned.{Shown, Shows, Works, effect_leads, still_works, turn_leads}
@@ -153,24 +153,13 @@ module _ {D : Type 0} (g : Ghosts D) where
 
   -- a batch was served by what opening gave, which was closed then
   pub ended : (opened mid : Result (Held (FileStore D g)) Refusal) (left : Option (Result (Files D) (FileStore D g))) → ((file : D) → g.may_leave file (g.seen file))
-      → (it : Batch) (image : Image) → IsFound image opened
+      → (Gave : Refusal → Type 0) (it : Batch) (image : Image) → IsFound image opened → IfErr opened Gave
       → batch.IsServed over_files it.name it.status it.input it.input_after opened mid it.old.host it.new.host it.old.out it.new.out it.old.err it.new.err
-      → IsShut mid left → HasEnded it image left
-  ended (Ok old) (Ok new) left stays it image found served shut =
+      → IsShut mid left → HasEnded it Gave image left
+  ended (Ok old) (Ok new) left stays Gave it image found gave served shut =
       ends g (IsServed it) (IsKept it) Refusal _ (HoldsState image) new left shut (λ left counted clean before stood.
       came left stays old new it (clean, counted) before found.1 (at_state image old found (clean_first left stays old new it (clean, counted) served) before stood) served)
-  ended (Ok old) (Err refusal) left stays it image found served shut = absurd served
-  ended (Err refusal) (Ok new) left stays it image found served shut = absurd served
-  ended (Err refusal) (Err same) None stays it image found served shut = ((refusal, found, (served.1, served.2, served.5)), served.3, served.4)
-  ended (Err refusal) (Err same) (Some left) stays it image found served shut = absurd shut
-
-  -- it is left, or the refusal of opening was told
-  pub told : (opened mid : Result (Held (FileStore D g)) Refusal) (left : Option (Result (Files D) (FileStore D g))) → (it : Batch)
-      → batch.IsServed over_files it.name it.status it.input it.input_after opened mid it.old.host it.new.host it.old.out it.new.out it.old.err it.new.err → IsShut mid left
-      → IsLeftOf (λ e. IsToldAs e it.status it.old.out it.old.err it.new.out it.new.err) opened left
-  told (Ok old) (Ok new) (Some left) it served shut = tt
-  told (Ok old) (Ok new) None it served shut = absurd shut
-  told (Ok old) (Err refusal) left it served shut = absurd served
-  told (Err refusal) (Ok new) left it served shut = absurd served
-  told (Err refusal) (Err same) None it served shut = (served.1, served.2, served.5)
-  told (Err refusal) (Err same) (Some left) it served shut = absurd shut
+  ended (Ok old) (Err refusal) left stays Gave it image found gave served shut = absurd served
+  ended (Err refusal) (Ok new) left stays Gave it image found gave served shut = absurd served
+  ended (Err refusal) (Err same) None stays Gave it image found gave served shut = ((refusal, gave, found, (served.1, served.2, served.5)), served.3, served.4)
+  ended (Err refusal) (Err same) (Some left) stays Gave it image found gave served shut = absurd shut

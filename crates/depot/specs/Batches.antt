@@ -6,6 +6,7 @@ use Rattle.sqlite.specs.declared.FileStore.{FileStore}
 use Rattle.sqlite.specs.Recovery.{Image}
 use Rattle.part_store.specs.Entries.{Entries}
 use Rattle.part_store.specs.Opening.{HoldsState}
+use Rattle.refusals.specs.declared.refusal.Refusal.{Refusal}
 use Rattle.devices.specs.Supply.{Supply}
 use Rattle.depot_actions.specs.Deliveries.{AcceptsAll}
 use Rattle.depot_actions.specs.DepotState.{Accepts, Command, Reply}
@@ -96,11 +97,12 @@ IsKept it left before after served held =
     (depot_and_output before it.old.host it.old.out) served.mid served.taken
     ⊎ LastIs (MakesOf after held) served.last served.mid (depot_and_output after it.new.host it.new.out))
 
--- no depot was opened: that was told, and nothing was read or done
-abbrev pub IsNotBegun : Batch → Type 0
-IsNotBegun it = IsUnopened it.status it.old.out it.old.err it.new.out it.new.err
+-- no depot was opened: the refusal was told, and nothing was read or done
+abbrev pub IsNotBegun : (Refusal → Type 0) → Batch → Type 0
+IsNotBegun Gave it = IsUnopened Gave it.status it.old.out it.old.err it.new.out it.new.err
     × (it.input_after ≡ it.input) × (it.new.host ≡ it.old.host)
 
--- a batch ended, by what is left of files that held the image
-abbrev pub HasEnded : {D : Type 0} {g : Ghosts D} → Batch → Image → Option (Result (Files D) (FileStore D g)) → Type 0
-HasEnded {D} {g} it image left = EndsSo g (IsServed it) (IsKept it) (IsNotBegun it) (HoldsState image) left
+-- a batch ended, by the refusals that opening its files gave, and by what is left of them; they held
+-- the image
+abbrev pub HasEnded : {D : Type 0} {g : Ghosts D} → Batch → (Refusal → Type 0) → Image → Option (Result (Files D) (FileStore D g)) → Type 0
+HasEnded {D} {g} it Gave image left = EndsSo g (IsServed it) (IsKept it) (IsNotBegun Gave it) (HoldsState image) left

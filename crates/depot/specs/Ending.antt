@@ -8,9 +8,11 @@ use Rattle.sqlite.specs.FileStore as store
 use Rattle.sqlite.specs.Files.{file_state}
 use Rattle.sqlite.specs.Held.{Held}
 use Rattle.sqlite.specs.Recovery.{Image}
+use Rattle.sqlite.specs.State.{HasCleanDisk}
 use Rattle.sqlite.specs.WalReads.{AreClean}
-use Rattle.part_store.specs.Entries.{Entries}
-use Rattle.part_store.specs.Opening.{HoldsState, IsAt, IsReadyFrom, KeepsStore}
+use Rattle.part_store.specs.Entries.{Entries, no_entries}
+use Rattle.part_store.specs.Opening.{HoldsNoTables, HoldsState, HoldsStore, IsAt, IsFoundIn, IsReadyFrom, IsUnseen, KeepsStore}
+use Rattle.part_store.specs.declared.looking.Unopened.{Unopened}
 use Rattle.refusals.specs.declared.refusal.Refusal.{Refusal}
 use Rattle.refusals.specs.declared.refusal.Refusal.TheVariants.{Memory, Database}
 use Rattle.devices.specs.Device.{Output}
@@ -18,6 +20,23 @@ use Rattle.depot_actions.specs.Applying.{HasFault}
 use Rattle.depot_actions.specs.Causes.{HasCause, MayRefuse}
 use Rattle.depot_actions.specs.DepotState.{Command}
 use Rattle.depot_jobs.specs.Jobs.{HasTold}
+
+-- ---- what opening gave
+
+-- what opening files that held the image gave: a depot at the state that they stood for, or a refusal
+abbrev pub IsFound : {D : Type 0} {g : Ghosts D} → Image → Result (Held (FileStore D g)) Refusal → Type 0
+IsFound image (Ok depot) =
+    IsReadyFrom image depot × ((file_state depot).step_limit ≡ None)
+    × (HasCleanDisk (file_state depot) → (held : Entries) → HoldsStore image held → IsAt held (file_state depot))
+    × (HasCleanDisk (file_state depot) → HoldsNoTables image → IsAt no_entries (file_state depot))
+IsFound image (Err refusal) = (refusal ≡ Memory) ⊎ (refusal ≡ Database)
+
+-- what opening them as they are gave
+abbrev pub IsSeen : {D : Type 0} {g : Ghosts D} → Image → Result (Held (FileStore D g)) Unopened → Type 0
+IsSeen image (Ok depot) =
+    IsFoundIn image depot × ((file_state depot).step_limit ≡ None)
+    × (HasCleanDisk (file_state depot) → (held : Entries) → HoldsStore image held → IsAt held (file_state depot))
+IsSeen {D} {g} image (Err why) = IsUnseen g image why
 
 -- ---- what is left
 
@@ -49,8 +68,8 @@ module _ {D : Type 0} (g : Ghosts D) (Answered : Result (Files D) (FileStore D g
       × (IsTrue (store.view last).is_numbered → (image : Image) → (store.state last).may_leave image
       → ∥ HoldsKept last before after answered image ∥₁)
 
-  -- By what is left of files that stood for such a state. Where that is nothing, no depot was opened,
-  -- and that was told.
+  -- By what is left of files that stood for such a state. Where that is nothing, opening them was
+  -- refused, and that was told.
   abbrev pub EndsSo : Type 0 → (Entries → Type 0) → Option (Result (Files D) (FileStore D g)) → Type 0
   EndsSo Told Stood None = Told
   EndsSo Told Stood (Some (Ok files)) = AreClean g files.log files.db
@@ -65,10 +84,12 @@ abbrev pub IsToldAs : Refusal → ℕ → Output → Output → Output → Outpu
 IsToldAs refusal status out err out_after err_after =
     (status ≡ 1) × HasTold refusal err err_after × (out_after ≡ out)
 
--- no depot was opened, for which no clause has a cause, and that was told
-abbrev pub IsUnopened : ℕ → Output → Output → Output → Output → Type 0
-IsUnopened status out err out_after err_after =
-    (refusal : Refusal) × ((refusal ≡ Memory) ⊎ (refusal ≡ Database)) × IsToldAs refusal status out err out_after err_after
+-- No depot was opened: opening the files gave such a refusal, for which no clause has a cause, and this
+-- was told.
+abbrev pub IsUnopened : (Refusal → Type 0) → ℕ → Output → Output → Output → Output → Type 0
+IsUnopened Gave status out err out_after err_after =
+    (refusal : Refusal) × Gave refusal × ((refusal ≡ Memory) ⊎ (refusal ≡ Database))
+    × IsToldAs refusal status out err out_after err_after
 
 module _ {D : Type 0} {g : Ghosts D} (left : Result (Files D) (FileStore D g)) where
   -- A depot that shows this state, as long as it is open, refuses the command so. The command may get the

@@ -64,14 +64,15 @@ module _ {D : Type 0} {g : Ghosts D} (image : Image) (left : Result (Files D) (F
       ⊎ ((refusal : Refusal) × IsUntold before refusal × (it.status ≡ 1) × HasTold refusal it.err it.err_after
       × (it.out_after ≡ it.out)))
 
--- files that held the image weren't opened, for the cause that a look has, and that was told, with status 1
-abbrev pub IsToldWhy : {D : Type 0} → Ghosts D → Answer → Image → Type 0
-IsToldWhy g it image = (why : Unopened) × IsUnseen g image why × (it.status ≡ 1)
+-- Files that held the image weren't opened: opening them gave such a refusal, for the cause that a look
+-- has, and this was told, with status 1.
+abbrev pub IsToldWhy : {D : Type 0} → Ghosts D → Answer → (Unopened → Type 0) → Image → Type 0
+IsToldWhy g it Gave image = (why : Unopened) × Gave why × IsUnseen g image why × (it.status ≡ 1)
     × HasToldWhy it.look (no_depot_of why) it.out it.err it.out_after it.err_after
 
--- a look ended, by what is left of files that held the image; whatever the close does, they stand for
--- the same state
-abbrev pub HasEnded : {D : Type 0} {g : Ghosts D} → Answer → Image → Option (Result (Files D) (FileStore D g)) → Type 0
-HasEnded {D} {g} it image left =
+-- a look ended, by the refusals that opening the files gave, and by what is left of them; they held the
+-- image, and whatever the close does, they stand for the same state
+abbrev pub HasEnded : {D : Type 0} {g : Ghosts D} → Answer → (Unopened → Type 0) → Image → Option (Result (Files D) (FileStore D g)) → Type 0
+HasEnded {D} {g} it Gave image left =
     EndsSo g (λ left. IsAnswered image left it) (λ left before after answered held. held ≡ before)
-    (IsToldWhy g it image) (HoldsStore image) left
+    (IsToldWhy g it Gave image) (HoldsStore image) left

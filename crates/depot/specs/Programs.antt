@@ -66,10 +66,10 @@ module _ {D : Type 0} {g : Ghosts D} (image : Image) (left : Result (Files D) (F
   abbrev pub IsAnswered : Save → Entries → Entries → Type 0
   IsAnswered it before after = (after ≡ before) × (HasSaved it before ⊎ HasNotSaved it before)
 
--- saving ended, by what is left of files that held the image; whatever the close does, they stand for
--- the same state
-abbrev pub HasEnded : {D : Type 0} {g : Ghosts D} → Save → Image → Option (Result (Files D) (FileStore D g)) → Type 0
-HasEnded {D} {g} it image left =
+-- saving ended, by the refusals that opening the files gave, and by what is left of them; they held the
+-- image, and whatever the close does, they stand for the same state
+abbrev pub HasEnded : {D : Type 0} {g : Ghosts D} → Save → (Refusal → Type 0) → Image → Option (Result (Files D) (FileStore D g)) → Type 0
+HasEnded {D} {g} it Gave image left =
     EndsSo g (λ left. IsAnswered image left it) (λ left before after answered held. held ≡ before)
-    (IsUnopened it.status it.old.out it.old.err it.new.out it.new.err × (it.new.host ≡ it.old.host))
+    (IsUnopened Gave it.status it.old.out it.old.err it.new.out it.new.err × (it.new.host ≡ it.old.host))
     (HoldsState image) left

@@ -55,8 +55,9 @@ abbrev pub IsKept : Command → Entries → Entries → Entries → Type 0
 IsKept command before after held =
     (held ≡ after) ⊎ ((after ≡ before) × (reply : Reply) × Accepts before command reply held)
 
--- a task ended, by what is left of files that held the image
-abbrev pub HasEnded : {D : Type 0} {g : Ghosts D} → Answer → Image → Option (Result (Files D) (FileStore D g)) → Type 0
-HasEnded {D} {g} it image left =
+-- a task ended, by the refusals that opening its files gave, and by what is left of them; they held
+-- the image
+abbrev pub HasEnded : {D : Type 0} {g : Ghosts D} → Answer → (Refusal → Type 0) → Image → Option (Result (Files D) (FileStore D g)) → Type 0
+HasEnded {D} {g} it Gave image left =
     EndsSo g (IsAnswered it image) (λ left before after answered held. IsKept it.command before after held)
-    (IsUnopened it.status it.out it.err it.out_after it.err_after) (HoldsState image) left
+    (IsUnopened Gave it.status it.out it.err it.out_after it.err_after) (HoldsState image) left

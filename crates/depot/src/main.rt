@@ -11,9 +11,14 @@
 //! even after a crash. A refused task reports its refusal, and if the close succeeded the files hold the state as it
 //! was.
 //!
-//! If no depot is opened, that is reported and nothing else is written; a batch then reads none of its input, and
-//! neither it nor the saving of a program asks the host for a file. These theorems do not say what the files hold
-//! then: see "If closing or opening fails".
+//! If opening the files is refused, that refusal is reported and nothing else is written; a batch then reads none of its
+//! input, and neither it nor the saving of a program asks the host for a file. These theorems do not say what the files
+//! hold then: see "If closing or opening fails".
+//!
+//! Only then are no files returned. The theorems hold for every `Opener`. It opens the files once, and that it refused
+//! is known only from the call that it refused. So no task, batch, saved program or look can open a depot, change it,
+//! and then report that it could not be opened. The program passes `OnDisk`; only its two bodies, of one call each, show
+//! that it opens the files at the path and does nothing else.
 //!
 //! ### Why it is refused
 //!
@@ -56,6 +61,7 @@
 mod batches;
 mod closing;
 mod looks;
+mod opening;
 mod place;
 mod programs;
 mod streams;
@@ -63,6 +69,7 @@ mod tasks;
 
 use crate::batches::serve_from;
 use crate::looks::look_from;
+use crate::opening::OnDisk;
 use crate::place::{Obstacle, look_at};
 use crate::programs::save_from;
 use crate::streams::hold_closed;
@@ -115,6 +122,11 @@ fn words_of(rt: &HostRuntime) -> io::Result<Vec<String>> {
     Ok(words(rt.alloc(), env::args(rt)?)?)
 }
 
+// What opens files of the system, about which nothing is known.
+fn on_disk(rt: &HostRuntime) -> OnDisk<'_, Unknown> {
+    OnDisk { rt, start: Unknown }
+}
+
 // Opens the depot of a task, and does the task on it.
 fn perform_task<O: Sink, E: Sink>(
     rt: &HostRuntime,
@@ -122,7 +134,7 @@ fn perform_task<O: Sink, E: Sink>(
     out: &mut O,
     err: &mut E,
 ) -> u8 {
-    let (status, _left) = carry_from(rt, pending, Unknown, out, err);
+    let (status, _left) = carry_from(rt.alloc(), pending, on_disk(rt), out, err);
     status
 }
 
@@ -134,7 +146,7 @@ fn save_program<H: Host, O: Sink, E: Sink>(
     out: &mut O,
     err: &mut E,
 ) -> u8 {
-    let (status, _left) = save_from(rt, saving, Unknown, host, out, err);
+    let (status, _left) = save_from(rt.alloc(), saving, on_disk(rt), host, out, err);
     status
 }
 
@@ -148,7 +160,15 @@ fn take_batch<H: Host, E: Sink>(rt: &HostRuntime, name: &str, host: &mut H, err:
     };
     let mut input = OfRead::new(reader);
     let mut out = OfWrite::new(writer);
-    let (status, _left) = serve_from(rt, name, Unknown, host, &mut input, &mut out, err);
+    let (status, _left) = serve_from(
+        rt.alloc(),
+        name,
+        on_disk(rt),
+        host,
+        &mut input,
+        &mut out,
+        err,
+    );
     status
 }
 
@@ -156,7 +176,8 @@ fn take_batch<H: Host, E: Sink>(rt: &HostRuntime, name: &str, host: &mut H, err:
 fn inspect_file<O: Sink, E: Sink>(rt: &HostRuntime, name: &str, out: &mut O, err: &mut E) -> u8 {
     match look_at(rt, name) {
         Ok(log) => {
-            let (status, _left) = look_from(rt, name, Look::Inspect(log), Unknown, out, err);
+            let look = Look::Inspect(log);
+            let (status, _left) = look_from(rt.alloc(), name, look, on_disk(rt), out, err);
             status
         }
         Err(Obstacle::NoDepot(why)) => tell_no_depot(out, err, why),
@@ -168,7 +189,7 @@ fn inspect_file<O: Sink, E: Sink>(rt: &HostRuntime, name: &str, out: &mut O, err
 fn scrub_file<O: Sink, E: Sink>(rt: &HostRuntime, name: &str, out: &mut O, err: &mut E) -> u8 {
     match look_at(rt, name) {
         Ok(_) => {
-            let (status, _left) = look_from(rt, name, Look::Scrub, Unknown, out, err);
+            let (status, _left) = look_from(rt.alloc(), name, Look::Scrub, on_disk(rt), out, err);
             status
         }
         Err(Obstacle::NoDepot(_)) => tell(err, &Refusal::Database),

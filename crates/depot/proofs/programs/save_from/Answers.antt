@@ -1,8 +1,10 @@
-use Rattle.depot.proofs.Ended.{found_in}
+use Rattle.depot_jobs.specs.Jobs.{host_and_outputs}
+use Rattle.depot.specs.Programs.{save_of}
+use Rattle.depot.proofs.Saved.{ended}
 use Rattle.depot.proofs.programs.save_from.Goals as goal
 
 pub returns : goal.returns
 returns g c = record {
   ended =
-      c.save_and_close.ensures.ended _ (found_in _ c.open_from-opened.result c.open_from-opened.ensures.ready c.open_from-opened.ensures.unlimited c.open_from-opened.ensures.found c.open_from-opened.ensures.empty c.open_from-opened.ensures.refused);
+      ended g.D.Disk c.open-opened.result _ c.close-left.result g.met.D.Disk.seen_may_stay (g.P.Opener.refuses c.args.saving.name.now) (save_of c.args.saving _ (host_and_outputs _ _ _) (host_and_outputs _ _ _)) (g.P.Opener.image c.args.saving.name.now) c.open-opened.ensures.found c.open-opened.ensures.refused c.save-status.ensures.served c.save-status.ensures.survives c.close-left.ensures.shut;
 }
