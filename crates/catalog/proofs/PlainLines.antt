@@ -6,9 +6,9 @@ use Rattle.base64.specs.Engines.{standard}
 use Rattle.base64.specs.GeneralPurpose.{encode_of}
 use Rattle.header_fields.specs.Fields.{Field, first_value}
 use Rattle.mime_decode.specs.Mail.{Mail}
-use Rattle.serde_json.specs.Data.{Data, number, unsigned, string, Members, member, no_members, put}
+use Rattle.serde_json.specs.Data.{number, unsigned, string, Members, member, no_members, put}
 use Rattle.catalog.specs.Rows.{Row}
-use Rattle.catalog.specs.Texts.{base64_value, text_value}
+use Rattle.catalog.specs.Texts.{text_value}
 use Rattle.catalog.specs.Fields.{field_names, fields_value, own_fields, with_field}
 use Rattle.catalog.specs.Lines.{common_members, message_value, part_value, place_value, places_value}
 use Rattle.catalog.specs.declared.entry.Place.{Place}

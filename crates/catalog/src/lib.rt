@@ -18,8 +18,8 @@
 //! and otherwise an object whose member `base64` encodes them, so a reader finds the same bytes. Nothing else is
 //! decoded. Of the header fields that a line has, a value is that of the first field with its name, unfolded.
 //!
-//! The parts of a message are found among a user's entries by the SHA-256 of their contents, each entry at the first part
-//! that has its content.
+//! The caller gives an entry's number, size and SHA-256; a line has what it gives. The entries that have the content of a
+//! part of a message are found by the SHA-256 of the parts' contents, each at the first part that has its content.
 //!
 //! By `message_line`, `part_line`, `stored_in`; laws `texts_are_read_back`, `lines_have_no_line_break`,
 //! `fields_are_the_first_of_their_names`.
