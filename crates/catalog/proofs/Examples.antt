@@ -14,7 +14,7 @@ use Rattle.catalog.specs.Stored.{stored_in}
 use Rattle.catalog.specs.Lines.{message_line, part_line}
 use Rattle.catalog.specs.declared.entry.PartEntry.{PartEntry}
 
--- the SHA-256 of nothing has other octets; any 32 will do
+-- any 32 octets
 abbrev digest : List ℕ
 digest = replicate 32 171
 
@@ -36,14 +36,14 @@ unfolding digits chars is_utf8 base64_on_literals hex_on_literals json_on_litera
 of_a_part = refl
 
 abbrev message : Row
-message = record { number = 1; folder = codes "INBOX"; name = []; media = codes "message/rfc822"; octets = 52; digest = digest }
+message = record { number = 1; folder = codes "INBOX"; name = []; media = codes "message/rfc822"; octets = 36; digest = digest }
 
--- the second Subject isn't the first, which is folded
+-- 36 octets with two fields Subject, of which the first is folded
 abbrev octets : List ℕ
 octets = codes "To: b@c" ++ 10 ∷ codes "subject: x" ++ 10 ∷ codes " y" ++ 10 ∷ codes "Subject: z" ++ 10 ∷ 10 ∷ codes "hi"
 
 of_a_message : message_line message (mail_of octets) []
-    ≡ codes "{\"fields\":{\"Subject\":\"x y\",\"To\":\"b@c\"},\"folder\":\"INBOX\",\"kind\":\"message\",\"media\":\"message/rfc822\",\"name\":\"\",\"number\":1,\"octets\":52,\"parts\":1,\"sha256\":\"abababababababababababababababababababababababababababababababab\",\"stored\":[]}"
+    ≡ codes "{\"fields\":{\"Subject\":\"x y\",\"To\":\"b@c\"},\"folder\":\"INBOX\",\"kind\":\"message\",\"media\":\"message/rfc822\",\"name\":\"\",\"number\":1,\"octets\":36,\"parts\":1,\"sha256\":\"abababababababababababababababababababababababababababababababab\",\"stored\":[]}"
 unfolding digits chars is_utf8 base64_on_literals hex_on_literals json_on_literals mail_of parts_of
 of_a_message = refl
 
