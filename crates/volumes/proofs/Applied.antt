@@ -1,5 +1,5 @@
 -- A command on one volume's depot, which was opened and given back, is a command on all volumes.
-use Rattle.std.proofs.Common.{◌≡◌, ℕ, zero, suc, ◌+◌, Bool, true, false, inl, inr, ◌⊎◌, IsTrue, IsErrAnd, IfErr, List, [], ◌∷◌, ◌++◌, Ok, Err, Result, length, refl, sym, ap, subst, ◌∙◌, arith}
+use Rattle.std.proofs.Common.{◌≡◌, ℕ, zero, suc, ◌+◌, Bool, true, false, inl, inr, IsTrue, IsErrAnd, IfErr, List, [], ◌∷◌, ◌++◌, Ok, Err, Result, length, refl, sym, ap, subst, ◌∙◌, arith}
 use Rattle.sqlite_trees.specs.declared.store.Store.{Ghosts}
 use Rattle.sqlite.specs.Held.{Held, state}
 use Rattle.sqlite.specs.State.{HasCleanDisk, State}
@@ -9,9 +9,9 @@ use Rattle.part_store.specs.Standing.{LeavesUnchanged, Stands}
 use Rattle.refusals.specs.declared.refusal.Refusal.{Refusal}
 use Rattle.refusals.specs.declared.refusal.Refusal.TheVariants.{NoSuchEntry, NumberFull}
 use Rattle.depot_actions.specs.Applying.{Applies, Spares, only_looks}
-use Rattle.depot_actions.specs.Causes.{HasCause, IsFull, MayRefuse, NamesNone}
+use Rattle.depot_actions.specs.Causes.{HasCause, IsFull, NamesNone}
 use Rattle.depot_actions.specs.DepotState.{Accepts, Command, Does, Reply}
-use Rattle.volumes.specs.Applying.{AppliesOnVolumes, HasCauseIn, HoldsSame, HoldsStep}
+use Rattle.volumes.specs.Applying.{AppliesOnVolumes, HasCauseIn, HoldsSame, HoldsStep, KeepsWhole}
 use Rattle.volumes.specs.Holding.{HasClosed, HasOpened, Holding, IsFailure, Keeps}
 use Rattle.volumes.specs.OnVolumes.{IsDoneOn}
 use Rattle.volumes.specs.Private.{HasOpenedNewest}
@@ -175,6 +175,68 @@ pub passed : {V : Type 0} (k : Holding V) (old new : V) → Keeps k old new → 
     → AppliesOnVolumes k old new result command reply
 passed k old new keeps command reply (Ok x) given is failure = absurd is
 passed k old new keeps command reply (Err e) given is failure = not_applied k old new keeps command reply e (subst IsFailure (sym is) failure)
+
+-- a command after something that changed nothing of what all volumes hold together
+pub applied_after : {V : Type 0} (k : Holding V) (old mid new : V) → KeepsWhole k old mid → {A : Type 0} (result : Result A Refusal) (command : Command) (reply : A → Reply) → AppliesOnVolumes k mid new result command reply
+    → AppliesOnVolumes k old new result command reply
+applied_after k old mid new keeps (Ok x) command reply applies = record {
+  done = λ sound before holds are.
+      let kept = keeps.same (applies.sound sound) before holds are in
+      let step = applies.done sound kept.0 kept.3 kept.2 in
+      (step.0, subst (λ e. Accepts e command (reply x) (whole step.0)) kept.1 step.1, step.2, step.3);
+  unchanged = λ sound before holds are. tt;
+  sound = λ sound. keeps.sound (applies.sound sound);
+  which = tt;
+  cause = λ sound before holds are. tt;
+}
+applied_after k old mid new keeps (Err e) command reply applies = record {
+  done = λ sound before holds are. tt;
+  unchanged = λ sound before holds are.
+      let kept = keeps.same (applies.sound sound) before holds are in
+      let same = applies.unchanged sound kept.0 kept.3 kept.2 in
+      (same.0, same.1 ∙ kept.1, same.2, same.3);
+  sound = λ sound. keeps.sound (applies.sound sound);
+  which = applies.which;
+  cause = λ sound before holds are.
+      let kept = keeps.same (applies.sound sound) before holds are in
+      subst (λ b. HasCauseIn e command b) kept.1 (applies.cause sound kept.0 kept.3 kept.2);
+}
+
+pub refused_after : {V : Type 0} (k : Holding V) (old new : V) → KeepsWhole k old new → {A : Type 0} (command : Command) (reply : A → Reply) (result : Result A Refusal) (given : Refusal) → IsErrAnd result (λ d. d ≡ given) → IsFailure given
+    → AppliesOnVolumes k old new result command reply
+refused_after k old new keeps command reply (Ok x) given is failure = absurd is
+refused_after k old new keeps command reply (Err e) given is failure = record {
+  done = λ sound before holds are. tt;
+  unchanged = keeps.same;
+  sound = keeps.sound;
+  which = inr (subst IsFailure (sym is) failure);
+  cause = λ sound before holds are. failed_in e command (whole before) (subst IsFailure (sym is) failure);
+}
+
+-- ---- what keeps the whole
+
+pub keeps_whole : {V : Type 0} (k : Holding V) (old new : V) → Keeps k old new → KeepsWhole k old new
+keeps_whole k old new keeps = record { same = λ sound before holds are. (before, refl, are, keeps.same sound before holds); sound = keeps.sound }
+
+pub keeps_then : {V : Type 0} (k : Holding V) (a b c : V) → Keeps k a b → Keeps k b c → Keeps k a c
+keeps_then k a b c one two = record {
+  same = λ sound vs holds. two.same sound vs (one.same (two.sound sound) vs holds);
+  sound = λ sound. one.sound (two.sound sound);
+}
+
+pub whole_then : {V : Type 0} (k : Holding V) (a b c : V) → KeepsWhole k a b → KeepsWhole k b c → KeepsWhole k a c
+whole_then k a b c one two = record {
+  same = λ sound before holds are.
+      let first = one.same (two.sound sound) before holds are in
+      let next = two.same sound first.0 first.3 first.2 in
+      (next.0, next.1 ∙ first.1, next.2, next.3);
+  sound = λ sound. one.sound (two.sound sound);
+}
+
+-- what holds after a refusal, whatever it is
+pub for_any_error : {A E P : Type 0} (result : Result A E) → P → IfErr result (λ _. P)
+for_any_error (Ok x) holds = tt
+for_any_error (Err e) holds = holds
 
 pub keeps_self : {V : Type 0} (k : Holding V) (v : V) → Keeps k v v
 keeps_self k v = record { same = λ sound vs holds. holds; sound = λ sound. sound }

@@ -3,49 +3,46 @@ use Rattle.std.proofs.Common.{◌≡◌, ℕ, zero, suc, ◌+◌, ◌*◌, ◌^�
 use Rattle.std.proofs.Math.Nat.{mul-le-mul, mul_assoc, pow-suc}
 use Rattle.part_store.specs.Entries.{Entries, no_entries}
 use Rattle.part_store.specs.Standing.{HasNone}
-use Rattle.volumes.specs.Places.{AsksFew, IsFirstAt, IsPlaceOf, NeverFall, lasts_of}
+use Rattle.volumes.specs.Places.{AsksFew, IsFirstAt, IsPlaceAmong, IsPlaceOf, NeverFall, lasts_of}
 use Rattle.volumes.specs.Volumes.{AreVolumes, ComeAfter, newest_after, whole}
 use Rattle.volumes.proofs.Whole.{none_beyond}
 
 -- ---- halving
 
--- the place is in a stretch: all numbers before it are smaller, and none from its end on is
-pub record IsBetween (number : ℕ) (numbers : List ℕ) (low high : ℕ) : Type 0 where
+-- the place is in a stretch of the first so many: all numbers before it are smaller, and none from its end on is
+pub record IsBetween (count number : ℕ) (numbers : List ℕ) (low high : ℕ) : Type 0 where
   pub order : low ≤ high
-  pub within : high ≤ length numbers
+  pub within : high ≤ count
   pub smaller : (i : ℕ) → i < low → slice_index numbers i < number
-  pub enough : (i : ℕ) → high ≤ i → i < length numbers → number ≤ slice_index numbers i
+  pub enough : (i : ℕ) → high ≤ i → i < count → number ≤ slice_index numbers i
 
-pub between_all : (number : ℕ) (numbers : List ℕ) → IsBetween number numbers 0 (length numbers)
-between_all number numbers = record {
+pub between_all : (count number : ℕ) (numbers : List ℕ) → IsBetween count number numbers 0 count
+between_all count number numbers = record {
   order = omega arith;
   within = omega arith;
   smaller = λ i lt. absurd (omega (arith, lt));
   enough = λ i ge lt. absurd (omega (arith, ge, lt));
 }
 
-module _ (number : ℕ) (numbers : List ℕ) (ordered : NeverFall numbers) (low middle high : ℕ) (between : IsBetween number numbers low high) (above : low ≤ middle) (below : middle < high) where
-  middle_there : middle < length numbers
-  middle_there = omega (arith, below, between.within)
-
-  pub later_half : slice_index numbers middle < number → IsBetween number numbers (middle + 1) high
+module _ (count number : ℕ) (numbers : List ℕ) (ordered : NeverFall numbers) (there : count ≤ length numbers) (low middle high : ℕ) (between : IsBetween count number numbers low high) (above : low ≤ middle) (below : middle < high) where
+  pub later_half : slice_index numbers middle < number → IsBetween count number numbers (middle + 1) high
   later_half less = record {
     order = omega (arith, below);
     within = between.within;
-    smaller = λ i before. omega (arith, ordered i middle (omega (arith, before)) middle_there, less);
+    smaller = λ i before. omega (arith, ordered i middle (omega (arith, before)) (omega (arith, below, between.within, there)), less);
     enough = between.enough;
   }
 
-  pub earlier_half : number ≤ slice_index numbers middle → IsBetween number numbers low middle
+  pub earlier_half : number ≤ slice_index numbers middle → IsBetween count number numbers low middle
   earlier_half more = record {
     order = above;
-    within = omega (arith, middle_there);
+    within = omega (arith, below, between.within);
     smaller = between.smaller;
-    enough = λ i from there. omega (arith, ordered middle i from there, more);
+    enough = λ i from within. omega (arith, ordered middle i from (omega (arith, within, there)), more);
   }
 
-pub place_found : (number : ℕ) (numbers : List ℕ) (low high : ℕ) → IsBetween number numbers low high → high ≤ low → IsPlaceOf number numbers low
-place_found number numbers low high between le = record {
+pub place_found : (count number : ℕ) (numbers : List ℕ) (low high : ℕ) → IsBetween count number numbers low high → high ≤ low → IsPlaceAmong count number numbers low
+place_found count number numbers low high between le = record {
   within = omega (arith, between.order, between.within);
   smaller = between.smaller;
   enough = λ lt. between.enough low le lt;
@@ -82,6 +79,10 @@ pub few_asked : (count width old new : ℕ) → HasHalved count width old new �
 few_asked count width old new halved = (halved.questions, halved.asked, halved.few)
 
 -- ---- the volume at the place
+
+pub lasts_long : (user : List ℕ) (vs : List Entries) → length (lasts_of user vs) ≡ length vs
+lasts_long user [] = refl
+lasts_long user (v ∷ vs) = ap suc (lasts_long user vs)
 
 above_first : (v : Entries) (vs : List Entries) → ComeAfter v vs → (user : List ℕ) (place : ℕ) → place < length (lasts_of user vs) → v.lasts user ≤ slice_index (lasts_of user vs) place
 above_first v [] come user place lt = absurd (omega (arith, lt))

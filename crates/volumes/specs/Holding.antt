@@ -2,8 +2,11 @@
 use Rattle.std.specs.Prelude.{◌≡◌, ◌⊎◌, ℕ, ◌<◌, IsTrue, List, [], ◌∷◌, ◌++◌, length}
 use Rattle.sqlite_trees.specs.declared.store.Store.{Ghosts}
 use Rattle.sqlite.specs.Held.{Held, state}
-use Rattle.part_store.specs.Entries.{Entries}
+use Rattle.sqlite.specs.State.{HasCleanDisk}
+use Rattle.part_store.specs.Entries.{Entries, no_entries}
 use Rattle.part_store.specs.Opening.{IsAt}
+use Rattle.part_store.specs.declared.error.StoreError.{StoreError}
+use Rattle.part_store.specs.declared.error.StoreError.TheVariants as store
 use Rattle.refusals.specs.declared.refusal.Refusal.{Refusal}
 use Rattle.refusals.specs.declared.refusal.Refusal.TheVariants.{Memory, Database}
 
@@ -13,9 +16,21 @@ pub record Holding (V : Type 0) : Type 1 where
   pub holds : V → List Entries → Type 0
   -- no depot that it was given back had been shut by a failure
   pub is_sound : V → Type 0
+  -- how many depots it has opened
+  pub opened : V → ℕ
+  -- the latest question for a last number was refused, with this refusal
+  pub refuses : V → Refusal → Type 0
 
 abbrev pub IsFailure : Refusal → Type 0
 IsFailure e = (e ≡ Memory) ⊎ (e ≡ Database)
+
+-- the refusal for a store that can't be read or filled
+abbrev pub failure_for : StoreError → Refusal
+failure_for store.Memory = Memory
+failure_for store.NoSuchEntry = Database
+failure_for store.NumberFull = Database
+failure_for store.Collision = Database
+failure_for store.Database = Database
 
 module _ {V : Type 0} (k : Holding V) where
   -- it holds what it held
@@ -37,4 +52,20 @@ module _ {V : Type 0} (k : Holding V) where
     pub held : k.is_sound new → (earlier : List Entries) (was is : Entries) (later : List Entries)
         → k.holds old (earlier ++ was ∷ later) → length earlier ≡ place → IsAt is (state g depot)
         → k.holds new (earlier ++ is ∷ later)
+    pub sound : k.is_sound new → IsTrue (state g depot).is_open × k.is_sound old
+
+  -- it is the last number that the user was given in the volume at this place
+  abbrev pub IsLastAt : V → V → List ℕ → ℕ → ℕ → Type 0
+  IsLastAt old new user place last = k.is_sound new → (earlier : List Entries) (v : Entries) (later : List Entries)
+      → k.holds old (earlier ++ v ∷ later) → length earlier ≡ place → last ≡ v.lasts user
+
+  -- the next volume's depot was made, which is empty; the volume doesn't count
+  pub record HasMade {S : Type 0} (g : Ghosts S) (old new : V) (depot : Held S) : Type 0 where
+    pub empty : HasCleanDisk (state g depot) → IsAt no_entries (state g depot)
+    pub keeps : Keeps old new
+
+  -- the next volume's depot was given back, and the volume counts: it is what the depot shows
+  pub record HasAdded {S : Type 0} (g : Ghosts S) (old new : V) (depot : Held S) : Type 0 where
+    pub held : k.is_sound new → (vs : List Entries) (v : Entries) → k.holds old vs → IsAt v (state g depot)
+        → k.holds new (vs ++ v ∷ [])
     pub sound : k.is_sound new → IsTrue (state g depot).is_open × k.is_sound old

@@ -7,11 +7,15 @@ use Rattle.part_store.specs.Entries.{Entries}
 abbrev pub NeverFall : List ℕ → Type 0
 NeverFall numbers = (i j : ℕ) → i ≤ j → j < length numbers → slice_index numbers i ≤ slice_index numbers j
 
--- the place, from 0, of the first that is at least this number: if there is none, how many there are
-pub record IsPlaceOf (number : ℕ) (numbers : List ℕ) (place : ℕ) : Type 0 where
-  pub within : place ≤ length numbers
+-- the place, from 0, of the first of so many that is at least this number: if there is none, how many they are
+pub record IsPlaceAmong (count number : ℕ) (numbers : List ℕ) (place : ℕ) : Type 0 where
+  pub within : place ≤ count
   pub smaller : (i : ℕ) → i < place → slice_index numbers i < number
-  pub enough : place < length numbers → number ≤ slice_index numbers place
+  pub enough : place < count → number ≤ slice_index numbers place
+
+-- the same of all of them
+abbrev pub IsPlaceOf : ℕ → List ℕ → ℕ → Type 0
+IsPlaceOf number numbers place = IsPlaceAmong (length numbers) number numbers place
 
 -- it is the first volume in which the user's last number is at least this one
 abbrev pub IsFirstUpTo : List ℕ → ℕ → List Entries → Entries → Type 0

@@ -1,12 +1,11 @@
-//! A depot in volumes: what it is, its laws, calls on the newest volume, and the search for the volume of a number.
+//! A depot in volumes: what it is, its laws, and calls over whatever holds the volumes.
 //!
 //! Volumes are depots that follow one another and answer as one. Each begins with the programs and last numbers of the
 //! one before it. From then on only the newest is changed, except by removals. `specs/Volumes` defines when depots are
 //! volumes of one depot, and what they hold together; `specs/OnVolumes` which volume a command is done on;
 //! `specs/Beginning` which files count while a volume begins; `specs/Folders` sessions over files. The trait
-//! [`Volumes`] opens volumes one by one, and calls on the newest are functions over it; `specs/Holding` and
-//! `specs/Applying` say what both promise. The calls on other volumes, deliveries, which begin volumes, and lists are not
-//! here; [`place_of`] asks volumes for a number through a trait of its own.
+//! [`Volumes`] opens volumes one by one, and the calls are functions over it; `specs/Holding` and `specs/Applying` say
+//! what both promise.
 //!
 //! What a crash leaves of volumes is not in the contracts of the calls, and neither is what they hold after a failure
 //! has shut a depot. The laws have both for sessions over files.
@@ -15,11 +14,11 @@
 //!
 //! ## Depots in volumes
 //!
-//! No command of `depot` makes or opens volumes: these are laws about the definitions, calls on the newest volume, and
-//! one search.
+//! No command of `depot` makes or opens volumes: these are laws about the definitions, and calls over a trait.
 //!
-//! Nothing implements the trait over which the calls are written. So no test has run them, and nothing shows that a folder
-//! of files, or stores in memory, can keep what the trait promises.
+//! Stores in memory keep what the trait promises: this is proved in the crate of tests `volumes_rows`, whose tests run the
+//! calls on one to nine volumes. Nothing implements the trait over a folder of files, so nothing shows that files can keep
+//! its promises.
 //!
 //! ### What volumes hold together
 //!
@@ -40,31 +39,41 @@
 //! hold what the accepted commands make, one after another. The same holds for sessions over the files of volumes, each
 //! over the files of one, also if crashes end them.
 //!
-//! ### Calls on the newest volume
+//! ### Calls on volumes
 //!
-//! Each of these calls is, with its reply, a step of all volumes as one depot; or it is refused, and what they hold
-//! together is as it was. They stay volumes of one depot. That holds whatever volumes there are, as long as no depot is
-//! shut by a failure. Besides the refusals that its command can get, a call can be refused `Memory` or `Database`,
-//! because the volume can't be opened.
+//! Each call is, with its reply, a step of all volumes as one depot; or it is refused, and what they hold together is as
+//! it was. They stay volumes of one depot. That holds whatever volumes there are, as long as no depot is shut by a
+//! failure. Besides the refusals that its command can get, a call can be refused `Memory` or `Database`, because the
+//! volumes can't be opened, read or begun. `NoSuchEntry` and `NumberFull` have their cause in all volumes together. An
+//! export writes what its entry's text is, or a beginning of it. If the next volume begins before a delivery, it counts
+//! only with the users of the newest. When it begins is not promised.
 //!
 //! ### The volume of a number
 //!
 //! Only the first volume in which a user's last number is at least a number can have his entry of that number.
-//! `place_of` finds the place of that volume, or that there is none. Of n volumes it asks at most as many as the
-//! logarithm of n to base 2, rounded down, and 1. It is refused only if a question is, with its refusal. Volumes in which
-//! the user's last number isn't above a number have none of his entries above it.
+//! `place_of` finds the place of that volume, or that there is none among the first so many. Of n volumes it asks at most
+//! as many as the logarithm of n to base 2, rounded down, and 1. It is refused only if a question is, with its refusal.
+//! `export` and `remove` open at most as many of n volumes as the logarithm of n to base 2, rounded up, and 1. Volumes in
+//! which the user's last number isn't above a number have none of his entries above it.
 //!
-//! By `set_script`, `set_code`, `program_of`, `migrate`, `place_of`; laws `begun_volumes_change_nothing`, `unfinished_volumes_change_nothing`,
-//! `removed_volumes_take_their_entries_alone`, `volumes_are_listed_in_order`, `commands_on_volumes_are_steps`,
-//! `commands_on_volumes_are_a_fold`, `sessions_on_volumes_are_steps`, `runs_on_volumes_are_a_fold`,
-//! `numbers_lead_to_their_volume`.
+//! By `set_script`, `set_code`, `program_of`, `migrate`, `deliver`, `export`, `remove`, `list`, `list_since`, `place_of`; laws
+//! `begun_volumes_change_nothing`, `unfinished_volumes_change_nothing`, `removed_volumes_take_their_entries_alone`,
+//! `volumes_are_listed_in_order`, `commands_on_volumes_are_steps`, `commands_on_volumes_are_a_fold`,
+//! `sessions_on_volumes_are_steps`, `runs_on_volumes_are_a_fold`, `numbers_lead_to_their_volume`.
 #![tactic(auto)]
 
+mod beginning;
 mod commands;
+mod failing;
 mod holding;
 pub mod laws;
+mod listing;
 mod searching;
 
-pub use commands::{migrate, program_of, set_code, set_script};
-pub use holding::Volumes;
-pub use searching::{LastNumbers, place_of};
+pub use commands::{
+    VOLUME_SIZE, deliver, export, migrate, program_of, remove, set_code, set_script,
+};
+pub use failing::failure_of;
+pub use holding::{Shown, Volumes};
+pub use listing::{list, list_since};
+pub use searching::place_of;

@@ -1,73 +1,65 @@
 // Finding the volume that has a number, by halving.
-ghost use Rattle.std.specs.Prelude.{◌≡◌, ◌<◌, ◌≤◌, ◌+◌, ◌-◌, ◌*◌, ℕ, IfErr, IfOk, List, Option, Some, length, slice_index};
-ghost use Rattle.refusals.specs.declared.refusal.Refusal.{Refusal};
-ghost use Rattle.volumes.specs.Places.{AsksFew, IsPlaceOf, NeverFall};
+ghost use Rattle.std.specs.Prelude.{◌≡◌, ◌<◌, ◌≤◌, ◌+◌, ◌-◌, ◌*◌, IfErr, IfOk};
+ghost use Rattle.volumes.specs.Applying.{IsSoughtPlace};
+ghost use Rattle.volumes.specs.Holding.{IsFailure, IsLastAt, Keeps};
+ghost use Rattle.volumes.specs.Places.{AsksFew};
 
+use crate::holding::Volumes;
+use depot_actions::Depot;
 use refusals::Refusal;
+use sqlite::Alter;
 
-/// Volumes that say which number a user was given last in each. Asking one can be expensive: its file is opened and
-/// read whole.
+/// Returns the place of the first of `count` volumes whose last number for the user is at least `number`, or `count` if
+/// none is. There can be more volumes: those from `count` on aren't asked.
 ///
-/// A contract knows the numbers, how many questions were asked, and the refusal of the latest one, if it was refused.
-pub trait LastNumbers {
-    ghost lasts: { Self → List ℕ };
-
-    ghost asked: { Self → ℕ };
-
-    ghost refusal: { Self → Option Refusal };
-
-    /// Returns the last number in the volume at a place, which counts from 0 at the oldest.
-    ///
-    /// # Errors
-    ///
-    /// The refusal if the volume can't be read. The numbers stay.
-    ///
-    /// # Requires
-    ///
-    /// There is a volume at the place.
-    fn last_at(&mut self, place: usize) -> Result<u32, Refusal>
-        requires { place < length (lasts self.old) }
-        ensures last { IfOk result (λ last. last ≡ slice_index (lasts self.old) place) }
-        ensures refused { IfErr result (λ e. refusal self.new ≡ Some e) }
-        ensures same { lasts self.new ≡ lasts self.old }
-        ensures counted { asked self.new ≤ asked self.old + 1 };
-}
-
-/// Returns the place of the first volume whose last number is at least this one, or how many volumes there are, if none
-/// is. The last numbers never fall from one volume to the next.
-///
-/// It asks no more volumes than the logarithm of their number to base 2, rounded down, and 1.
+/// It asks no more volumes for the user's last number than the logarithm of `count` to base 2, rounded down, and 1.
 ///
 /// # Errors
 ///
-/// The refusal of the question that was refused.
-///
-/// # Requires
-///
-/// There are `count` volumes, and their last numbers never fall.
-pub fn place_of<L: LastNumbers>(
-    volumes: &mut L,
+/// The refusal of the question that was refused: `Memory` or `Database`.
+pub fn place_of<S: Alter, V: Volumes<S, Depot<S>>>(
+    volumes: &mut V,
+    user: &str,
+    number: u64,
     count: usize,
-    number: u32,
 ) -> Result<usize, Refusal>
-    requires count { length (L.lasts volumes.old) ≡ count }
-    requires ordered { NeverFall (L.lasts volumes.old) }
-    ensures place { IfOk result (IsPlaceOf number (L.lasts volumes.old)) }
-    ensures refused { IfErr result (λ e. L.refusal volumes.new ≡ Some e) }
-    ensures same { L.lasts volumes.new ≡ L.lasts volumes.old }
-    ensures few { AsksFew count (L.asked volumes.old) (L.asked volumes.new) }
+    ensures place { IfOk result
+        (IsSoughtPlace V.holding volumes.old volumes.new user.now number count) }
+    ensures within { IfOk result (λ place. place ≤ count) }
+    ensures keeps { Keeps V.holding volumes.old volumes.new }
+    ensures refused { IfErr result (V.holding.refuses volumes.new) }
+    ensures which { IfErr result IsFailure }
+    ensures few { AsksFew count (V.holding.opened volumes.old) (V.holding.opened volumes.new) }
 {
     let mut low = 0;
     let mut high = count;
     'halves: while low < high {
         let middle = middle_of(low, high);
-        if volumes.last_at(middle)? < number {
+        if last_at(volumes, user, middle)? < number {
             low = middle + 1;
         } else {
             high = middle;
         }
     }
     Ok(low)
+}
+
+// The last number that the user was given in the volume at a place.
+fn last_at<S: Alter, V: Volumes<S, Depot<S>>>(
+    volumes: &mut V,
+    user: &str,
+    place: usize,
+) -> Result<u64, Refusal>
+    ensures last { IfOk result (IsLastAt V.holding volumes.old volumes.new user.now place) }
+    ensures keeps { Keeps V.holding volumes.old volumes.new }
+    ensures refused { IfErr result (V.holding.refuses volumes.new) }
+    ensures which { IfErr result IsFailure }
+    ensures counted { V.holding.opened volumes.new ≤ V.holding.opened volumes.old + 1 }
+{
+    match volumes.last_of(place, user) {
+        Ok(last) => Ok(u64::from(last)),
+        Err(refusal) => Err(refusal),
+    }
 }
 
 // A place in the middle of a stretch: what is before it, and what is after it, is at most half as long.
