@@ -2,9 +2,9 @@
 //
 // `carry` takes the result of opening, a depot or the refusal, so that printing the refusal, performing the task once
 // and returning its status are one contract. The way from the open to the close is `carry_from` of the program, over
-// any type that represents what the files held; `main` passes the type about which nothing is known. `serve_from`,
-// `save_from` and `look_from` are the same for a batch, `program` and a look. What is left of the files is stated once
-// for the four (`EndsSo`), by how the request is answered and which state a failed close can keep.
+// anything that opens files (`Opener`). `serve_from`, `save_from` and `look_from` are the same for a batch, `program`
+// and a look. What is left of the files is stated once for the four (`EndsSo`), by how the request is answered and
+// which state a failed close can keep.
 ghost use Rattle.std.specs.Prelude.{◌≡◌, Some};
 ghost use Rattle.sqlite.specs.Held.{state};
 ghost use Rattle.depot_cli.specs.Carrying.{HasCarried, HasReported, HasToldWhy, OutlastsCarrying, OutlastsReporting};
