@@ -16,9 +16,9 @@
 //!
 //! No command of `depot` makes or opens volumes: these are laws about the definitions, and calls over a trait.
 //!
-//! Stores in memory keep what the trait promises: this is proved in the crate of tests `volumes_rows`, whose tests run the
-//! calls on one to nine volumes. Nothing implements the trait over a folder of files, so nothing shows that files can keep
-//! its promises.
+//! The crate of tests `volumes_rows` implements the trait for depots that stay open, over any store; this is proved. Its
+//! tests of the calls have not been run. Nothing implements the trait over a folder of files, so nothing shows that files
+//! can keep its promises.
 //!
 //! ### What volumes hold together
 //!
@@ -56,10 +56,11 @@
 //! `export` and `remove` open at most as many of n volumes as the logarithm of n to base 2, rounded up, and 1. Volumes in
 //! which the user's last number isn't above a number have none of his entries above it.
 //!
-//! By `set_script`, `set_code`, `program_of`, `migrate`, `deliver`, `export`, `remove`, `list`, `list_since`, `place_of`; laws
-//! `begun_volumes_change_nothing`, `unfinished_volumes_change_nothing`, `removed_volumes_take_their_entries_alone`,
-//! `volumes_are_listed_in_order`, `commands_on_volumes_are_steps`, `commands_on_volumes_are_a_fold`,
-//! `sessions_on_volumes_are_steps`, `runs_on_volumes_are_a_fold`, `numbers_lead_to_their_volume`.
+//! By `set_script`, `set_code`, `program_of`, `migrate`, `deliver`, `export`, `remove`, `list`, `list_since`, `place_of`;
+//! laws `begun_volumes_change_nothing`, `unfinished_volumes_change_nothing`,
+//! `removed_volumes_take_their_entries_alone`, `volumes_are_listed_in_order`, `commands_on_volumes_are_steps`,
+//! `commands_on_volumes_are_a_fold`, `sessions_on_volumes_are_steps`, `runs_on_volumes_are_a_fold`,
+//! `numbers_lead_to_their_volume`.
 #![tactic(auto)]
 
 mod beginning;
