@@ -1,4 +1,4 @@
--- What volumes hold whose depots stay open.
+-- Private: what volumes hold whose depots stay open.
 use Rattle.std.specs.Prelude.{◌≡◌, ℕ, false, IsTrue, List, ◌∷◌, ◌++◌, length, Option, Some, None}
 use Rattle.std.specs.List.{AllByRecursion, AllZip}
 use Rattle.sqlite_trees.specs.declared.store.Store.{Ghosts}

@@ -1,1 +1,2 @@
+-- private: how the code goes; no public contract names these
 pub mod Depots
