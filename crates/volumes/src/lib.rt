@@ -17,8 +17,8 @@
 //! No command of `depot` makes or opens volumes: these are laws about the definitions, and calls over a trait.
 //!
 //! The crate of tests `volumes_rows` implements the trait for depots that stay open, over any store; this is proved. Its
-//! tests of the calls have not been run. Nothing implements the trait over a folder of files, so nothing shows that files
-//! can keep its promises.
+//! tests run the calls on one to nine volumes in memory. Nothing implements the trait over a folder of files, so nothing
+//! shows that files can keep its promises.
 //!
 //! ### What volumes hold together
 //!
