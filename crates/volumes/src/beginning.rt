@@ -59,7 +59,10 @@ fn newest_users<S: Alter, V: Volumes<S, Depot<S>>>(volumes: &mut V) -> Result<Ve
 }
 
 // Makes the next volume with these users. It counts if they could be put in.
-fn fill_next<S: Alter, V: Volumes<S, Depot<S>>>(volumes: &mut V, users: &[UserRow]) -> Result<(), Refusal>
+fn fill_next<S: Alter, V: Volumes<S, Depot<S>>>(
+    volumes: &mut V,
+    users: &[UserRow],
+) -> Result<(), Refusal>
     ensures keeps { FillsNext V.holding volumes.old volumes.new (map line_of users.now) }
     ensures which { IfErr result IsFailure }
 {

@@ -114,7 +114,10 @@ pub fn program_of<S: Alter, V: Volumes<S, Depot<S>>>(
 ///
 /// - `Memory` or `Database` if the volume can't be opened.
 /// - What [`Depot::migrate`] is refused for.
-pub fn migrate<S: Alter, V: Volumes<S, Depot<S>>>(volumes: &mut V, alloc: Global) -> Result<usize, Refusal>
+pub fn migrate<S: Alter, V: Volumes<S, Depot<S>>>(
+    volumes: &mut V,
+    alloc: Global,
+) -> Result<usize, Refusal>
     ensures { AppliesOnVolumes V.holding volumes.old volumes.new result Migrate Migrated }
 {
     let (place, mut depot) = open_newest(volumes)?;
