@@ -1,6 +1,6 @@
 // The trace of a program.
-ghost use Rattle.std.specs.Prelude.{◌≡◌, IfErr, IfOk};
-ghost use Rattle.devices.specs.Device.{HasStopped, HasTaken};
+ghost use Rattle.std.specs.Prelude.{IfOk};
+ghost use Rattle.devices.specs.Device.{HasPutUnless, HasStopped};
 ghost use Rattle.sieve_vm.specs.Ending.{IsOutcome};
 ghost use Rattle.bytecode_trace.specs.Printed.{trace_text};
 
@@ -38,10 +38,8 @@ pub fn trace<O: Sink>(
 ) -> Result<Outcome, Refusal>
     ensures outcome { IfOk result (λ outcome. IsOutcome verified.now message.now
         outcome.actions.items outcome.charged) }
-    ensures told { IfOk result (λ outcome. HasTaken (trace_text verified.now message.now)
-        (O.output out.old) (O.output out.new)) }
-    ensures stopped { IfErr result (λ why. HasStopped why (trace_text verified.now message.now)
-        (O.output out.old) (O.output out.new)) }
+    ensures put { HasPutUnless HasStopped result (trace_text verified.now message.now)
+        (O.output out.old) (O.output out.new) }
 {
     let mut run = Progress::begin(alloc, verified, message)?;
     let mut line = Vec::new(alloc);

@@ -1,12 +1,12 @@
 -- What comes of a line, from what came of its words and of what they ask for.
-use Rattle.std.proofs.Common.{◌≡◌, ◌∙◌, ap, append-nil, inl, inr, refl, subst, sym, arith, ℕ, List, [], Result, Ok, Err, IfOk, OnErr, OnOk}
-use Rattle.std.proofs.KnownBytes.{Appends-kept}
+use Rattle.std.proofs.Common.{◌≡◌, append-nil, inl, inr, refl, subst, sym, arith, ℕ, List, [], Result, Ok, Err, IfOk, OnErr, OnOk}
 use Rattle.std.proofs.lemmas.Result.{on_err_weaker}
 use Rattle.sqlite_trees.specs.declared.store.Store.{Ghosts}
 use Rattle.sqlite_trees.specs.Tree.{Trees}
 use Rattle.sqlite.specs.Held.{Held, state}
 use Rattle.sqlite.specs.State.{State, Survives}
-use Rattle.devices.specs.Device.{HasBroken, HasFailed, HasTaken, Output, counted}
+use Rattle.devices.specs.Device.{HasBroken, HasTaken, Output}
+use Rattle.devices.proofs.Outputs.{broken_later}
 use Rattle.depot_actions.specs.Applying.{MayAdd}
 use Rattle.depot_jobs.specs.Host.{HostState}
 use Rattle.depot_batch.specs.Answers.{AreNoTexts, HasComeOf, IsReportOn, IsUnasked, answer_text, outcome_of, report_text, unasked_report}
@@ -64,14 +64,8 @@ pub nothing_asked : (octets : List ℕ) (words : List (List ℕ)) (fault : LineF
 nothing_asked octets words fault has nothing = wrong_words octets words fault has nothing
 
 -- a text was taken, and then a call failed
-pub broken_after : (text : List ℕ) (s0 s1 s2 : Output) → HasTaken text s0 s1 → HasFailed s1 s2 → HasBroken text s0 s2
-broken_after text s0 s1 s2 taken failed = record {
-  prefix = text;
-  rest = [];
-  whole = sym (append-nil text);
-  written = Appends-kept s0.written s1.written s2.written text taken.written failed.written;
-  faults = failed.faults ∙ ap (counted 1) taken.faults;
-}
+pub broken_after : (text : List ℕ) (s0 s1 s2 : Output) → HasTaken text s0 s1 → HasBroken [] s1 s2 → HasBroken text s0 s2
+broken_after text s0 s1 s2 taken broken = subst (λ octets. HasBroken octets s0 s2) (append-nil text) (broken_later text [] taken broken)
 
 come_of : (Had : Effect → Type 0) (name octets : List ℕ) (asked : Asked) (report : Report) (host host2 : HostState) → IsAsked octets asked → HasComeOf Had name asked report host host2
     → HasCome Had name octets (outcome_of report) (report_text report) host host2

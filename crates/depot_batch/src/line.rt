@@ -3,12 +3,11 @@
 // If the input ends within a line, the line isn't done: its writer can have died within it, and `remove ann 1` can be
 // the beginning of `remove ann 12`. It is reported as no command. Nothing is read after it, because on a growing file
 // the rest of the line would be taken for a command of its own.
-ghost use Rattle.std.specs.Prelude.{◌≡◌, List, [], IfErr, IfOk, OnErr, OnOk, map};
+ghost use Rattle.std.specs.Prelude.{◌≡◌, List, [], IfErr, IfOk, OnErr, map};
 ghost use Rattle.sqlite.specs.Held.{state};
 ghost use Rattle.sqlite.specs.State.{Survives};
-ghost use Rattle.devices.specs.Device.{HasBroken, HasFailed, HasTaken};
+ghost use Rattle.devices.specs.Device.{HasPut};
 ghost use Rattle.depot_actions.specs.Applying.{MayAdd};
-ghost use Rattle.printing.specs.Writing.{HasPut};
 ghost use Rattle.depot_batch.specs.Answers.{AreNoTexts, HasComeOf, HasLineWords, IsReportOn, IsUnasked, answer_text, outcome_of, unasked_report};
 ghost use Rattle.depot_batch.specs.Asked.{Asks, Text};
 ghost use Rattle.depot_batch.specs.Batch.{Did, Happens};
@@ -199,10 +198,8 @@ pub fn put_whole<P: Printable, W: Write + Drop>(
 ///
 /// `DeviceFailed` if the writer fails; the failure is counted.
 pub fn flush<W: Write + Drop>(out: &mut OfWrite<W>) -> Result<(), DeviceFailed>
-    ensures ok { OnOk result (HasTaken [] (⟦<OfWrite<W> as Sink>⟧.output out.old)
-        (⟦<OfWrite<W> as Sink>⟧.output out.new)) }
-    ensures err { OnErr result (HasFailed (⟦<OfWrite<W> as Sink>⟧.output out.old)
-        (⟦<OfWrite<W> as Sink>⟧.output out.new)) }
+    ensures { HasPut result [] (⟦<OfWrite<W> as Sink>⟧.output out.old)
+        (⟦<OfWrite<W> as Sink>⟧.output out.new) }
 {
     match out.inner.flush() {
         Ok(()) => Ok(()),

@@ -1,9 +1,8 @@
 // Traces of scripts and of programs.
-ghost use Rattle.std.specs.Prelude.{◌≡◌, ◌<◌, true, false, List, IfErr, IfOk, IsErrAnd, OnOk, length};
+ghost use Rattle.std.specs.Prelude.{◌≡◌, ◌<◌, true, false, List, IfErr, IfOk, IsErrAnd, length};
 ghost use Rattle.octets.specs.Limits.{max_program, max_script};
-ghost use Rattle.devices.specs.Device.{HasStopped, HasTaken};
+ghost use Rattle.devices.specs.Device.{HasPut, HasPutUnless, HasStopped};
 ghost use Rattle.printing.specs.Printed.{report_text};
-ghost use Rattle.printing.specs.Writing.{HasPut};
 ghost use Rattle.refusals.specs.Scripts.{IsScriptRefusal};
 ghost use Rattle.refusals.specs.declared.refusal.Refusal.TheVariants.{ScriptTooLong, Spelling};
 ghost use Rattle.sieve_engine.specs.Evaluation.{IsEvaluationRefusal};
@@ -163,10 +162,8 @@ fn places_in(alloc: Global, script: &[u8]) -> Result<Places, Refusal>
 /// - `Write` if a call of `out` fails.
 /// - `Memory` if memory is refused.
 pub fn put_traced<O: Sink>(alloc: Global, out: &mut O, traced: &Traced<'_>) -> Result<(), Refusal>
-    ensures ok { OnOk result (HasTaken (traced_text traced.now) (O.output out.old)
-        (O.output out.new)) }
-    ensures err { IfErr result (λ e. HasStopped e (traced_text traced.now) (O.output out.old)
-        (O.output out.new)) }
+    ensures { HasPutUnless HasStopped result (traced_text traced.now) (O.output out.old)
+        (O.output out.new) }
 {
     match traced {
         Traced::Script(script) => put_script(alloc, out, script),
@@ -176,10 +173,8 @@ pub fn put_traced<O: Sink>(alloc: Global, out: &mut O, traced: &Traced<'_>) -> R
 
 // Writes the trace of a script, and then the report.
 fn put_script<O: Sink>(alloc: Global, out: &mut O, traced: &TracedScript<'_>) -> Result<(), Refusal>
-    ensures ok { OnOk result (HasTaken (script_text traced.now) (O.output out.old)
-        (O.output out.new)) }
-    ensures err { IfErr result (λ e. HasStopped e (script_text traced.now) (O.output out.old)
-        (O.output out.new)) }
+    ensures { HasPutUnless HasStopped result (script_text traced.now) (O.output out.old)
+        (O.output out.new) }
 {
     match sieve_trace::trace(
         alloc,
@@ -205,10 +200,8 @@ fn put_program<O: Sink>(
     out: &mut O,
     traced: &TracedProgram<'_>,
 ) -> Result<(), Refusal>
-    ensures ok { OnOk result (HasTaken (program_text traced.now) (O.output out.old)
-        (O.output out.new)) }
-    ensures err { IfErr result (λ e. HasStopped e (program_text traced.now) (O.output out.old)
-        (O.output out.new)) }
+    ensures { HasPutUnless HasStopped result (program_text traced.now) (O.output out.old)
+        (O.output out.new) }
 {
     bytecode_trace::trace(alloc, &traced.verified, &traced.message, out)?;
     Ok(put_report(out, &traced.report)?)

@@ -1,5 +1,5 @@
 -- What is known of a sink, and what calls do to it.
-use Rattle.std.specs.Prelude.{◌≡◌, ℕ, zero, suc, ◌+◌, ◌-◌, ◌^◌, min, List, Option, ◌++◌}
+use Rattle.std.specs.Prelude.{◌≡◌, ℕ, zero, suc, ◌+◌, ◌-◌, ◌^◌, min, List, Option, ◌++◌, IfErr, OnErr, OnOk, Result}
 use Rattle.std.specs.Io.KnownBytes.{Appends, Keeps}
 use Rattle.refusals.specs.declared.refusal.Refusal.{Refusal}
 use Rattle.refusals.specs.declared.refusal.Refusal.TheVariants.{Memory, Write}
@@ -44,3 +44,14 @@ abbrev pub HasStopped : Refusal → List ℕ → Output → Output → Type 0
 HasStopped Write octets old new = HasBroken octets old new
 HasStopped Memory octets old new = HasBegun octets old new
 HasStopped _ octets old new = ⊥
+
+-- a call that writes these octets: the sink took all of them if it succeeded; otherwise the first of them, up to where a
+-- call of the sink failed
+pub record HasPut {A E : Type 0} (result : Result A E) (octets : List ℕ) (old new : Output) : Type 0 where
+  pub ok : OnOk result (HasTaken octets old new)
+  pub err : OnErr result (HasBroken octets old new)
+
+-- the same where a call can stop for other reasons, too
+pub record HasPutUnless {A E : Type 0} (Stopped : E → List ℕ → Output → Output → Type 0) (result : Result A E) (octets : List ℕ) (old new : Output) : Type 0 where
+  pub ok : OnOk result (HasTaken octets old new)
+  pub err : IfErr result (λ e. Stopped e octets old new)

@@ -2,7 +2,7 @@
 ghost use Rattle.arrayvec.specs.ArrayVec.{array_vec_len};
 ghost use Rattle.std.specs.Prelude.{◌≡◌, ◌<◌, ◌≤◌, false, true, [], ◌++◌, length, take, OnErr, OnOk};
 ghost use Rattle.std.specs.Io.KnownBytes.{Appends};
-ghost use Rattle.devices.specs.Device.{HasBroken, HasTaken, counted};
+ghost use Rattle.devices.specs.Device.{HasPut, HasTaken, counted};
 ghost use Rattle.devices.specs.PageFacts.{Appends-prop, failures};
 
 use crate::ghost_text::GhostText;
@@ -113,10 +113,8 @@ impl<'a, O: Sink> Page<'a, O> {
     /// `DeviceFailed` if a call of the sink has failed, now or before; the sink has taken the beginning of the text.
     pub fn flush(&mut self) -> Result<(), DeviceFailed>
         ensures same { view_of self.new ≡ view_of self.old }
-        ensures ok { OnOk result (HasTaken (text_on self.old) (start_of self.old)
-            (O.output self.new.out.now)) }
-        ensures err { OnErr result (HasBroken (text_on self.old) (start_of self.old)
-            (O.output self.new.out.now)) }
+        ensures put { HasPut result (text_on self.old) (start_of self.old)
+            (O.output self.new.out.now) }
         ensures sound { OnOk result (self.old.has_failed ≡ false) }
         ensures failed { OnErr result (self.new.has_failed ≡ true) }
     {

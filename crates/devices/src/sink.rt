@@ -1,7 +1,7 @@
 // Sinks, and a writer as a sink.
-ghost use Rattle.std.specs.Prelude.{◌≡◌, ◌<◌, ◌≤◌, length, take, IfOk, OnErr, OnOk};
+ghost use Rattle.std.specs.Prelude.{◌≡◌, ◌<◌, ◌≤◌, length, take, IfOk, OnErr};
 ghost use Rattle.std.specs.Io.KnownBytes.{Appends, Keeps};
-ghost use Rattle.devices.specs.Device.{HasBroken, HasFailed, HasTaken, Output};
+ghost use Rattle.devices.specs.Device.{HasFailed, HasPut, HasTaken, Output};
 
 use refusals::Refusal;
 use std::io::{ErrorKind, Write};
@@ -103,8 +103,7 @@ fn write_some<W: Write>(writer: &mut W, octets: &[u8]) -> Result<usize, DeviceFa
 ///
 /// `DeviceFailed` if a call of the sink fails; the sink has taken the first of the bytes.
 pub fn put<W: Sink>(writer: &mut W, octets: &[u8]) -> Result<(), DeviceFailed>
-    ensures ok { OnOk result (HasTaken octets.now (W.output writer.old) (W.output writer.new)) }
-    ensures err { OnErr result (HasBroken octets.now (W.output writer.old) (W.output writer.new)) }
+    ensures { HasPut result octets.now (W.output writer.old) (W.output writer.new) }
 {
     let mut done = 0;
     'pieces: while done < octets.len() {

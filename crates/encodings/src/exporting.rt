@@ -3,8 +3,8 @@
 // An export is encoded and written in pieces of 4,560 bytes, a multiple of 3, 5 and 57, so that the texts of the
 // pieces, one after another, are the text of the whole. In quoted-printable a piece is a line, and because standard
 // output isn't buffered, each line is a system call. So a `1 Memory` can come after some of the text was written.
-ghost use Rattle.std.specs.Prelude.{◌≡◌, ◌≢◌, ◌<◌, ◌++◌, length, IfErr, IfOk, OnErr, OnOk};
-ghost use Rattle.devices.specs.Device.{HasBroken, HasStopped, HasTaken};
+ghost use Rattle.std.specs.Prelude.{◌≡◌, ◌≢◌, ◌<◌, ◌++◌, length, IfErr, IfOk};
+ghost use Rattle.devices.specs.Device.{HasPut, HasPutUnless, HasStopped};
 ghost use Rattle.encodings.specs.Texts.{text_of};
 ghost use Rattle.encodings.specs.declared.encoding.Encoding.TheVariants.{Qp, Raw};
 ghost use Rattle.refusals.specs.declared.refusal.Refusal.TheVariants.{Write};
@@ -37,10 +37,8 @@ pub fn put_text<W: Sink>(
     octets: &[u8],
     writer: &mut W,
 ) -> Result<(), Refusal>
-    ensures ok { OnOk result (HasTaken (text_of encoding octets.now) (W.output writer.old)
-        (W.output writer.new)) }
-    ensures err { IfErr result (λ e. HasStopped e (text_of encoding octets.now)
-        (W.output writer.old) (W.output writer.new)) }
+    ensures put { HasPutUnless HasStopped result (text_of encoding octets.now)
+        (W.output writer.old) (W.output writer.new) }
     ensures raw { encoding ≡ Raw → IfErr result (λ e. e ≡ Write) }
 {
     match encoding {
@@ -52,8 +50,7 @@ pub fn put_text<W: Sink>(
 
 // Writes the bytes unchanged, piece by piece.
 fn put_pieces<W: Sink>(octets: &[u8], writer: &mut W) -> Result<(), DeviceFailed>
-    ensures ok { OnOk result (HasTaken octets.now (W.output writer.old) (W.output writer.new)) }
-    ensures err { OnErr result (HasBroken octets.now (W.output writer.old) (W.output writer.new)) }
+    ensures { HasPut result octets.now (W.output writer.old) (W.output writer.new) }
 {
     let mut rest = octets;
     'pieces: while !rest.is_empty() {
@@ -66,10 +63,8 @@ fn put_pieces<W: Sink>(octets: &[u8], writer: &mut W) -> Result<(), DeviceFailed
 
 // Writes the quoted-printable text of the bytes, line by line.
 fn put_lines<W: Sink>(alloc: Global, octets: &[u8], writer: &mut W) -> Result<(), Refusal>
-    ensures ok { OnOk result (HasTaken (text_of Qp octets.now) (W.output writer.old)
-        (W.output writer.new)) }
-    ensures err { IfErr result (λ e. HasStopped e (text_of Qp octets.now) (W.output writer.old)
-        (W.output writer.new)) }
+    ensures { HasPutUnless HasStopped result (text_of Qp octets.now) (W.output writer.old)
+        (W.output writer.new) }
 {
     let mut line = Vec::with_capacity(alloc, LINE_OCTETS)?;
     let mut rest = octets;
@@ -91,10 +86,8 @@ fn put_groups<W: Sink>(
     writer: &mut W,
 ) -> Result<(), Refusal>
     requires { encoding ≢ Qp }
-    ensures ok { OnOk result (HasTaken (text_of encoding octets.now) (W.output writer.old)
-        (W.output writer.new)) }
-    ensures err { IfErr result (λ e. HasStopped e (text_of encoding octets.now)
-        (W.output writer.old) (W.output writer.new)) }
+    ensures { HasPutUnless HasStopped result (text_of encoding octets.now) (W.output writer.old)
+        (W.output writer.new) }
 {
     let mut rest = octets;
     'pieces: while !rest.is_empty() {

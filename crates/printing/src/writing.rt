@@ -1,8 +1,8 @@
 // Values that are printed as one text, and writing such a text to a sink.
 ghost use Rattle.std.specs.Prelude.{List, ℕ};
+ghost use Rattle.devices.specs.Device.{HasPut};
 ghost use Rattle.devices.specs.Pages.{Wrote};
 ghost use Rattle.printing.specs.Printed.{line, refusal_line, wrote_text};
-ghost use Rattle.printing.specs.Writing.{HasPut};
 
 use crate::printing::{print_refusal, print_wrote};
 use devices::{DeviceFailed, Page, Sink};

@@ -1,6 +1,6 @@
 // The printer of a trace, which watches an evaluation.
-ghost use Rattle.std.specs.Prelude.{◌≡◌, IfErr, OnOk};
-ghost use Rattle.devices.specs.Device.{HasTaken};
+ghost use Rattle.std.specs.Prelude.{◌≡◌};
+ghost use Rattle.devices.specs.Device.{HasPutUnless};
 ghost use Rattle.sieve_meaning.specs.Traced.{event};
 ghost use Rattle.sieve_meaning.specs.Watched.{occurrence_of};
 ghost use Rattle.sieve_trace.specs.Printed.{event_line};
@@ -75,12 +75,9 @@ fn put_line<O: Sink>(
     what: Told<'_>,
 ) -> Result<(), TraceError>
     ensures sheet { sheet_of lines.new scene.new ≡ sheet_of lines.old scene.old }
-    ensures ok { OnOk result (HasTaken
+    ensures put { HasPutUnless HasStopped result
         (event_line (sheet_of lines.old scene.old) (event at part (occurrence_of what.entry)))
-        (O.output out.old) (O.output out.new)) }
-    ensures err { IfErr result (λ why. HasStopped why
-        (event_line (sheet_of lines.old scene.old) (event at part (occurrence_of what.entry)))
-        (O.output out.old) (O.output out.new)) }
+        (O.output out.old) (O.output out.new) }
 {
     scene.move_to(part)?;
     lines.set(scene, at, what)?;

@@ -2,8 +2,8 @@
 //
 // A trace is written as it is made: three loops over 4,096 parts have more lines than memory can hold. So it is the
 // only answer that can break off because memory is refused after some of it was written.
-ghost use Rattle.std.specs.Prelude.{◌≡◌, IfErr, IfOk};
-ghost use Rattle.devices.specs.Device.{HasTaken};
+ghost use Rattle.std.specs.Prelude.{◌≡◌, IfOk};
+ghost use Rattle.devices.specs.Device.{HasPutUnless};
 ghost use Rattle.sieve_check.specs.Bounded.{AreBoundedCommands};
 ghost use Rattle.sieve_check.specs.TypedView.{commands_form};
 ghost use Rattle.sieve_meaning.specs.Meaning.{meaning};
@@ -52,12 +52,9 @@ pub fn trace<O: Sink>(
 ) -> Result<Vec<Action>, TraceError>
     ensures actions { IfOk result (λ actions. actions.items
         ≡ meaning message.now (commands_form checked.now.commands)) }
-    ensures told { IfOk result (λ actions. HasTaken
+    ensures put { HasPutUnless HasStopped result
         (trace_text (sheet name.now places.now message.now) (commands_form checked.now.commands))
-        (O.output out.old) (O.output out.new)) }
-    ensures stopped { IfErr result (λ why. HasStopped why
-        (trace_text (sheet name.now places.now message.now) (commands_form checked.now.commands))
-        (O.output out.old) (O.output out.new)) }
+        (O.output out.old) (O.output out.new) }
 {
     let label = label_of(alloc, name)?;
     trace_commands(alloc, &label, places, checked.commands(), message, out)
@@ -75,12 +72,9 @@ fn trace_commands<'l, 's, 'm, O: Sink>(
     requires { AreBoundedCommands (commands_form commands.now) }
     ensures actions { IfOk result (λ actions. actions.items
         ≡ meaning message.now (commands_form commands.now)) }
-    ensures told { IfOk result (λ actions. HasTaken
+    ensures put { HasPutUnless HasStopped result
         (trace_text (labelled label.now places.now message.now) (commands_form commands.now))
-        (O.output out.old) (O.output out.new)) }
-    ensures stopped { IfErr result (λ why. HasStopped why
-        (trace_text (labelled label.now places.now message.now) (commands_form commands.now))
-        (O.output out.old) (O.output out.new)) }
+        (O.output out.old) (O.output out.new) }
 {
     let mut lines = Lines {
         label,
@@ -107,14 +101,10 @@ fn print_events<O: Sink>(
     ensures same_reference { printer.new.out.ghost_name ≡ printer.old.out.ghost_name }
     ensures actions { IfOk result (λ actions. actions.items
         ≡ meaning message.now (commands_form commands.now)) }
-    ensures told { IfOk result (λ actions. HasTaken
+    ensures put { HasPutUnless HasStopped result
         (told (sheet_of printer.old.lines.now printer.old.scene.now)
         (script_events message.now (commands_form commands.now)))
-        (O.output printer.old.out.now) (O.output printer.new.out.now)) }
-    ensures stopped { IfErr result (λ why. HasStopped why
-        (told (sheet_of printer.old.lines.now printer.old.scene.now)
-        (script_events message.now (commands_form commands.now)))
-        (O.output printer.old.out.now) (O.output printer.new.out.now)) }
+        (O.output printer.old.out.now) (O.output printer.new.out.now) }
 {
     let mut run = Evaluator::new(alloc);
     let _flow = run.commands(alloc, commands, Subject::of(message), printer)?;

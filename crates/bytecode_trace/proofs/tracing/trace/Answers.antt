@@ -1,4 +1,4 @@
-use Rattle.std.proofs.Common.{◌≡◌, ◌∙◌, suc, sym, ap, subst}
+use Rattle.std.proofs.Common.{◌≡◌, ◌∙◌, suc, sym, ap, subst, rules}
 use Rattle.std.proofs.lemmas.Result.{err_from_is_err_and}
 use Rattle.devices.specs.Pages.{PageView, view_of, writes}
 use Rattle.bytecode_format.specs.Code.{Code}
@@ -24,11 +24,11 @@ steps-preserved g c =
       ap (λ (m : Moment). m.mail) e ∙ c.steps.invariant.1,
       subst (λ n. writes (lines_left code mail n) written ≡ whole) (sym (ap (λ (m : Moment). m.steps) e))
           (wrote_first (lines_left code mail run.steps) (line_at code mail run.steps) (lines_left code mail (suc run.steps)) (view_of c.steps.page) written whole (next_line code mail run.steps at.0 at.1) wrote c.steps.invariant.2),
-      taken_same (view_of c.write.new.self) written _ c.flush.ensures.same c.in_ok-flush.ensures.ok,
+      taken_same (view_of c.write.new.self) written _ c.flush.ensures.same c.in_ok-flush.ensures.put.ok,
     )
 
-pub returns-in_err-flush-clause-stopped : goal.returns-in_err-flush-clause-stopped
-returns-in_err-flush-clause-stopped g c =
+pub returns-in_err-flush-clause-put : goal.returns-in_err-flush-clause-put
+returns-in_err-flush-clause-put g c =
     let code = c.args.verified.now in
     let mail = c.args.message.now in
     let run = c.steps.run in
@@ -39,16 +39,17 @@ returns-in_err-flush-clause-stopped g c =
     let wrote : view_of c.write.new.self ≡ writes (line_at code mail run.steps) (view_of c.steps.page) = c.write.ensures ∙ ap (λ xs. writes xs (view_of c.steps.page)) line in
     let whole = wrote_first (lines_left code mail run.steps) (line_at code mail run.steps) left (view_of c.steps.page) (view_of c.write.new.self) _ (next_line code mail run.steps at.0 at.1) wrote c.steps.invariant.2 ∙ ap (writes text) c.new-page.ensures.view in
     let named = ap (λ (v : PageView). v.name) c.flush.ensures.same ∙ ap (λ (v : PageView). v.name) whole in
-    let broken = broken_before (view_of c.write.new.self) _ (g.O.Sink.output c.args.out.now) (g.O.Sink.output c.flush.new.self.out.now) text left whole c.in_err-flush.ensures.err in
+    let broken = broken_before (view_of c.write.new.self) _ (g.O.Sink.output c.args.out.now) (g.O.Sink.output c.flush.new.self.out.now) text left whole c.in_err-flush.ensures.put.err in
     let p = err_from_is_err_and c.from_residual-in_err-flush.result c.from_residual-in_err-flush.ensures.1 in
-    rw (p.1, p.2) (broken_same broken (ap g.O.Sink.output (sym c.drop-page-in_err-flush.ensures ∙ sym (c.out-in_err-flush-1.given.1 (sym named)))))
+    record { ok = search rules; err = rw (p.1, p.2) (broken_same broken (ap g.O.Sink.output (sym c.drop-page-in_err-flush.ensures ∙ sym (c.out-in_err-flush-1.given.1 (sym named))))) }
 
-pub returns-clause-told : goal.returns-clause-told
-returns-clause-told g c =
+pub returns-clause-put : goal.returns-clause-put
+returns-clause-put g c =
     let code = c.args.verified.now in
     let mail = c.args.message.now in
     let text = trace_text code mail in
     let whole = c.steps.invariant.2 ∙ ap (writes text) c.new-page.ensures.view in
     let named = ap (λ (v : PageView). v.name) whole in
     let none = over_run c.steps.run code mail c.steps.invariant.0 c.steps.invariant.1 (sym c.goes_on.ensures.value ∙ c.steps-test.false) in
-    taken_whole (view_of c.steps.page) _ (g.O.Sink.output c.args.out.now) (g.O.Sink.output c.steps.page.out.now) _ text _ whole none c.steps.invariant.3 (ap g.O.Sink.output (sym c.drop-page-2.ensures ∙ sym (c.out-2-1.given.1 (sym named))))
+    let taken = taken_whole (view_of c.steps.page) _ (g.O.Sink.output c.args.out.now) (g.O.Sink.output c.steps.page.out.now) _ text _ whole none c.steps.invariant.3 (ap g.O.Sink.output (sym c.drop-page-2.ensures ∙ sym (c.out-2-1.given.1 (sym named)))) in
+    record { ok = taken; err = tt }

@@ -1,3 +1,4 @@
+use Rattle.std.proofs.Common.{rules}
 use Rattle.devices.proofs.Outputs.{broken_at_place, next_within, on_err, taken_next}
 use Rattle.devices.proofs.sink.put.Goals as goal
 
@@ -11,6 +12,8 @@ pieces-preserved g c =
       taken = taken_next text c.pieces.done c.in_ok-done.field-0 before.taken step.ok;
     }
 
-pub returns-in_err-done-clause-err : goal.returns-in_err-done-clause-err
-returns-in_err-done-clause-err g c =
-    on_err c.from_residual.result (broken_at_place c.args.octets.now c.pieces.done c.pieces.invariant.taken c.in_err-done.ensures.err)
+pub returns-in_err-done : goal.returns-in_err-done
+returns-in_err-done g c = record {
+  ok = search rules;
+  err = on_err c.from_residual.result (broken_at_place c.args.octets.now c.pieces.done c.pieces.invariant.taken c.in_err-done.ensures.err);
+}

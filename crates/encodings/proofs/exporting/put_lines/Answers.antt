@@ -1,4 +1,4 @@
-use Rattle.std.proofs.Common.{◌≡◌, ◌∙◌, ◌++◌, [], drop, sym, ap, eqb-true}
+use Rattle.std.proofs.Common.{◌≡◌, ◌∙◌, ◌++◌, [], drop, sym, ap, eqb-true, rules}
 use Rattle.std.proofs.lemmas.List.{nil_from_length}
 use Rattle.std.proofs.lemmas.Result.{err_from_is_err_and}
 use Rattle.quoted_printable.specs.QuotedPrintable.{encoding_of, first_line, tokens_of, tokens_of_line}
@@ -21,16 +21,16 @@ lines-preserved g c =
     let after = c.split_at.ensures.back ∙ ap (λ n. drop n rest) c.in_ok-taken.ensures.taken in
     rw after (leaves_rest _ _ line (encoding_of (drop (tokens_of_line (tokens_of rest)) rest)) c.lines.invariant (first_and_rest rest) taken)
 
-pub returns-in_err-put-clause-err : goal.returns-in_err-put-clause-err
-returns-in_err-put-clause-err g c =
+pub returns-in_err-put : goal.returns-in_err-put
+returns-in_err-put g c =
     let rest = c.lines.rest.now in
     let line = first_line (tokens_of rest) in
     let is : c.encode_qp_line.new.out.items ≡ line = c.in_ok-taken.ensures.line ∙ ap (λ l. l ++ line) c.clear.ensures.items in
     let p = err_from_is_err_and c.from_residual-in_err-put.result c.from_residual-in_err-put.ensures.1 in
     let broken = rw (c.deref.ensures.value, is) at c.in_err-put.ensures.err in
-    rw (p.1, p.2) (broken_in_piece _ _ line (encoding_of (drop (tokens_of_line (tokens_of rest)) rest)) c.lines.invariant (first_and_rest rest) broken)
+    record { ok = search rules; err = rw (p.1, p.2) (broken_in_piece _ _ line (encoding_of (drop (tokens_of_line (tokens_of rest)) rest)) c.lines.invariant (first_and_rest rest) broken) }
 
-pub returns-clause-ok : goal.returns-clause-ok
-returns-clause-ok g c =
+pub returns : goal.returns
+returns g c =
     let none : c.lines.rest.now ≡ [] = nil_from_length c.lines.rest.now (eqb-true _ _ (sym c.is_empty.ensures ∙ c.lines-test.false)) in
-    leaves_none _ _ _ _ c.lines.invariant (ap (text_of Qp) none ∙ text_of-none Qp)
+    record { ok = leaves_none _ _ _ _ c.lines.invariant (ap (text_of Qp) none ∙ text_of-none Qp); err = search rules }

@@ -47,7 +47,7 @@ returns-clause-done g c =
       subst (λ h. Always g.S.Store h new (Does command (Text text))) c.self.view_is
           (exported g.S.Store c.self.inside.store new c.bytes_of.result c.map_err.result c.map_err.ensures.cases c.in_ok-octets.octets c.in_ok-octets.was c.args.user.now c.args.number c.args.encoding c.deref.result.now named
           c.deref.ensures.value c.bytes_of.ensures.answer c.bytes_of.ensures.reads),
-    )) c.put_text.ensures.ok
+    )) c.put_text.ensures.put.ok
 
 pub returns-clause-stopped : goal.returns-clause-stopped
 returns-clause-stopped g c =
@@ -61,4 +61,4 @@ returns-clause-stopped g c =
       subst (λ h. Always g.S.Store h new (Does command (Text text))) c.self.view_is
           (exported g.S.Store c.self.inside.store new c.bytes_of.result c.map_err.result c.map_err.ensures.cases c.in_ok-octets.octets c.in_ok-octets.was c.args.user.now c.args.number c.args.encoding c.deref.result.now named
           c.deref.ensures.value c.bytes_of.ensures.answer c.bytes_of.ensures.reads),
-    )) c.put_text.ensures.err
+    )) c.put_text.ensures.put.err

@@ -5,4 +5,4 @@ use Rattle.sieve_trace.proofs.printer.PrinterWatching.tell.Goals as goal
 
 pub returns : goal.returns
 returns g c = λ what is start before printed.
-    told_next _ c.put_line.result before c.args.at c.args.part what (occurrence_of c.args.what) is refl c.put_line.ensures.sheet printed c.put_line.ensures.ok c.put_line.ensures.err
+    told_next _ c.put_line.result before c.args.at c.args.part what (occurrence_of c.args.what) is refl c.put_line.ensures.sheet printed c.put_line.ensures.put.ok c.put_line.ensures.put.err
