@@ -152,18 +152,21 @@ Only if: command -v flock # there is no flock
     $ depot list mail.depot ann
     none
     $ cat > held << 'END'
-    > mkfifo in; depot batch mail.depot < in > other & exec 3> in
+    > #!/bin/sh
+    > # another process has the depot when `inspect` is asked first
+    > [ "$1" = inspect ] && [ ! -e asked ] || exec depot "$@"
+    > mkfifo in; depot batch "$2" < in > other & exec 3> in
     > echo 'list bob' >&3; until grep -qs = other; do sleep 0.1; done
-    > python3 examples/attachments.py mail.depot ann saved examples/invoice.eml 3>&- &
-    > sleep 3; exec 3>&-; wait
+    > depot "$@" | tee asked; exec 3>&-; wait
     > END
-    $ sh held; ls saved/1; rm in held
+    $ chmod +x held; DEPOT=$PWD/held python3 examples/attachments.py mail.depot ann saved examples/invoice.eml; cat asked; ls saved/1
+    no depot: another process holds it
     mail.eml
-    $ echo 'no database' > other
+    $ rm -r held in other asked saved
     $ python3 examples/attachments.py mail.depot 'no user' none
     2> refused 44 UserName: since no user 0; depot inspect mail.depot says more
     [1]
-    $ rm -r saved none other
+    $ rm -r none
 
 ## a depot that isn't there is not made
     $ sh examples/attachments.sh mail.depot ann saved

@@ -40,9 +40,9 @@ pub fn list<S: Alter, V: Volumes<S, Depot<S>>>(
     rows_from(volumes, alloc, user, 0, 0, count)
 }
 
-/// Returns the user's entries with numbers above `number`, without their contents, in the order of their numbers. Only
-/// volumes in which the user's last number is above it are listed, and the newest; to find them, at most as many are
-/// opened as the logarithm of their number to base 2, rounded up.
+/// Returns the user's entries with numbers above `number`, without their contents, in the order of their numbers. A
+/// search by [`place_of`] finds the first volume in which the user's last number is above `number`; that one and the
+/// later ones are listed, or the newest alone if there is none. The contract doesn't say which volumes are opened.
 ///
 /// # Errors
 ///
