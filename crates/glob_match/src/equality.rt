@@ -3,7 +3,7 @@ ghost use Rattle.std.specs.Prelude.{◌≡◌, ◌≤◌, ◌<◌, ◌+◌, ◌*
 ghost use Rattle.glob_match.specs.Comparison.{is_match};
 
 use crate::comparator::Comparator;
-use crate::fold::equal_folded;
+use crate::fold::equal_from_first;
 
 /// Returns whether the value is equal to the key under the comparator (RFC 5228, section 2.7.1), and an estimate of
 /// the work.
@@ -14,6 +14,7 @@ use crate::fold::equal_folded;
 /// # Requires
 ///
 /// The product of the lengths, each plus 1, is less than 2^64.
+#[inline(always)]
 pub fn is(value: &[u8], key: &[u8], comparator: Comparator) -> (bool, u64)
     requires { (length value.now + 1) * (length key.now + 1) < 2 ^ 64 }
     ensures value { result.0 ≡ is_match comparator value.now key.now }
@@ -23,9 +24,12 @@ pub fn is(value: &[u8], key: &[u8], comparator: Comparator) -> (bool, u64)
     if value.len() != key.len() {
         return (false, 0);
     }
+    if key.is_empty() {
+        return (true, 0);
+    }
     let equal = match comparator {
         Comparator::Octet => value == key,
-        Comparator::Casemap => equal_folded(value, key),
+        Comparator::Casemap => equal_from_first(value, key),
     };
     (equal, key.len() as u64)
 }

@@ -25,6 +25,7 @@ pub(crate) fn fold(text: &[u8], folded: &mut [u8])
 }
 
 /// Whether texts of the same length are equal with `a` to `z` as `A` to `Z`.
+#[inline(never)]
 pub(crate) fn equal_folded(value: &[u8], key: &[u8]) -> bool
     requires { length value.now ≡ length key.now }
     ensures { result ≡ is_match Casemap value.now key.now }

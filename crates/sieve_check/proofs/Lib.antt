@@ -8,10 +8,8 @@ pub mod Noting
 pub mod OpenLoops
 pub mod FaultSteps
 pub mod FormSteps
-pub mod Requiring
 pub mod Options
 pub mod Finding
-pub mod StringSteps
 pub mod Unread
 pub mod Faultless
 pub mod TagSteps

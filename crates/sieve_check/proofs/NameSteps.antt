@@ -1,25 +1,15 @@
 -- The names of variables, as they are met.
-use Rattle.std.proofs.Common.{◌≡◌, ℕ, ◌+◌, ◌<◌, true, false, ◌||◌, bytes_eq, List, [], ◌∷◌, ◌++◌, length, map, flat_map, drop, take, get_or, refl, sym, ap, subst, ◌∙◌, arith, length-append, add-one}
+use Rattle.std.proofs.Common.{◌≡◌, ℕ, ◌+◌, ◌<◌, true, false, ◌||◌, bytes_eq, List, [], ◌∷◌, ◌++◌, length, drop, take, get_or, refl, sym, ap, ◌∙◌, arith, length-append, add-one}
 use Rattle.std.proofs.Math.Seq.{drop-cons}
 use Rattle.std.specs.Prelude.{Result, Ok, Err}
 use Rattle.std.specs.Borrow.{Bor}
-use Rattle.std.specs.Global.{Vec}
-use Rattle.std.proofs.lemmas.Grind.{flat_map-append}
 use Rattle.std.proofs.lemmas.List.{length-map, map-append, take-append-le, take_all}
 use Rattle.octets.specs.Ascii.{lowercase_of}
 use Rattle.octets.specs.Limits.{max_variables}
 use Rattle.octets.specs.Once.{is_listed, with_more}
 use Rattle.octets.proofs.Once.{more_after, unlisted_added}
-use Rattle.sieve_references.specs.References.{names_in}
-use Rattle.sieve_parser.specs.View.{argument_tree}
-use Rattle.sieve_parser.specs.declared.tree.Argument.{Argument}
-use Rattle.sieve_parser.specs.declared.tree.Argument.TheVariants.{TextList}
 use Rattle.sieve_check.specs.declared.causes.ReasonKind.{ReasonKind}
-use Rattle.sieve_check.specs.declared.signature.Lists.{Lists}
-use Rattle.sieve_check.specs.Reading.{all_lists}
 use Rattle.sieve_check.specs.Refusing.{Adds, Overflows, shown}
-use Rattle.sieve_check.specs.Rules.{strings_in, strings_of}
-use Rattle.sieve_check.proofs.FromIndex.{split_at}
 use Rattle.sieve_check.proofs.OnceSteps.{grows, kept_more}
 
 -- ---- whether a name is among them
@@ -93,52 +83,3 @@ many_of_all now first left start all after is many = same_overflow now (first ++
 pub further : (now first left start all after : List (List ℕ)) → with_more bytes_eq now (first ++ left) ≡ with_more bytes_eq start all → after ≡ with_more bytes_eq now first
     → with_more bytes_eq after left ≡ with_more bytes_eq start all
 further now first left start all after is added = ap (λ l. with_more bytes_eq l left) added ∙ sym (more_after bytes_eq now first left) ∙ is
-
--- the names of strings from an index on, and of arguments
-pub strings_names : (list : List (List ℕ)) (i : ℕ) (x y : List ℕ) → i < length list → x ≡ get_or list i x → y ≡ x → flat_map names_in (drop i list) ≡ names_in y ++ flat_map names_in (drop (i + 1) list)
-strings_names list i x y lt is same = ap (flat_map names_in) (split_at list i x lt is) ∙ ap (λ s. names_in s ++ flat_map names_in (drop (i + 1) list)) (sym same)
-
-pub arguments_names : (list : List Argument) (i : ℕ) (x : Argument) → i < length list → x ≡ get_or list i x
-    → flat_map names_in (strings_of (map argument_tree (drop i list))) ≡ flat_map names_in (strings_in (argument_tree x)) ++ flat_map names_in (strings_of (map argument_tree (drop (i + 1) list)))
-arguments_names list i x lt is =
-    ap (λ l. flat_map names_in (strings_of (map argument_tree l))) (split_at list i x lt is)
-    ∙ flat_map-append names_in (strings_in (argument_tree x)) (strings_of (map argument_tree (drop (i + 1) list)))
-
--- those of a list of strings
-pub list_names : (argument : Argument) (first : List ℕ) (others : Vec (List ℕ)) (y : List ℕ) (ys : List (List ℕ)) → argument ≡ TextList first others → y ≡ first → ys ≡ others.items
-    → names_in y ++ flat_map names_in ys ≡ flat_map names_in (strings_in (argument_tree argument))
-list_names argument first others y ys is same same_others = ap (λ s. names_in s ++ flat_map names_in ys) same ∙ ap (λ l. names_in first ++ flat_map names_in l) same_others ∙ sym (ap (λ a. flat_map names_in (strings_in (argument_tree a))) is)
-
--- ---- those of lists, one after the other
-
-abbrev pub names_of : List Argument → List (List ℕ)
-names_of list = flat_map names_in (strings_of (map argument_tree list))
-
-module _ (lists : Lists) where
-  pub lists_names : flat_map names_in (strings_of (all_lists lists)) ≡ names_of lists.first.now ++ names_of lists.params.now ++ names_of lists.others.now
-  lists_names =
-      ap (flat_map names_in) (flat_map-append strings_in (map argument_tree lists.first.now ++ map argument_tree lists.params.now) (map argument_tree lists.others.now))
-      ∙ flat_map-append names_in (strings_of (map argument_tree lists.first.now ++ map argument_tree lists.params.now)) (strings_of (map argument_tree lists.others.now))
-      ∙ ap (λ names. flat_map names_in names ++ names_of lists.others.now) (flat_map-append strings_in (map argument_tree lists.first.now) (map argument_tree lists.params.now))
-      ∙ ap (λ names. names ++ names_of lists.others.now) (flat_map-append names_in (strings_of (map argument_tree lists.first.now)) (strings_of (map argument_tree lists.params.now)))
-
-  pub many_first : (names after : List (List ℕ)) → Overflows names (names_of lists.first.now) after → Overflows names (flat_map names_in (strings_of (all_lists lists))) after
-  many_first names after many =
-      subst (λ (more : List (List ℕ)). Overflows names more after) (sym lists_names)
-      (many_with_more names (names_of lists.first.now ++ names_of lists.params.now) (names_of lists.others.now) after (many_with_more names (names_of lists.first.now) (names_of lists.params.now) after many))
-
-  module _ (names between : List (List ℕ)) (first : between ≡ with_more bytes_eq names (names_of lists.first.now)) where
-    both : with_more bytes_eq between (names_of lists.params.now) ≡ with_more bytes_eq names (names_of lists.first.now ++ names_of lists.params.now)
-    both = ap (λ l. with_more bytes_eq l (names_of lists.params.now)) first ∙ sym (more_after bytes_eq names (names_of lists.first.now) (names_of lists.params.now))
-
-    pub many_second : (after : List (List ℕ)) → Overflows between (names_of lists.params.now) after → Overflows names (flat_map names_in (strings_of (all_lists lists))) after
-    many_second after many =
-        subst (λ (more : List (List ℕ)). Overflows names more after) (sym lists_names)
-        (many_with_more names (names_of lists.first.now ++ names_of lists.params.now) (names_of lists.others.now) after
-        (same_overflow between (names_of lists.params.now) (names_of lists.first.now ++ names_of lists.params.now) names after both many))
-
-    module _ {A : Type 0} (later : List (List ℕ)) (result : Result A ReasonKind) (after : List (List ℕ)) (second : later ≡ with_more bytes_eq between (names_of lists.params.now)) where
-      pub adds_lists : Adds later (names_of lists.others.now) result after → Adds names (flat_map names_in (strings_of (all_lists lists))) result after
-      adds_lists adds =
-          subst (λ (more : List (List ℕ)). Adds names more result after) (sym lists_names)
-          (adds_both names (names_of lists.first.now ++ names_of lists.params.now) (names_of lists.others.now) later result after (second ∙ both) adds)

@@ -5,16 +5,13 @@ use Rattle.std.proofs.Math.Seq.{drop-cons}
 use Rattle.std.proofs.lemmas.Bool.{cases_Bool}
 use Rattle.std.proofs.lemmas.List.{map-append}
 use Rattle.std.proofs.lemmas.List.Elements.{filter-append}
-use Rattle.sieve_parser.specs.View.{argument_tree}
-use Rattle.sieve_parser.specs.declared.tree.Argument.{Argument}
 use Rattle.sieve_check.specs.declared.causes.ReasonKind.TheVariants.{UnknownCapability}
 use Rattle.sieve_check.specs.declared.names.Capability.{Capability}
 use Rattle.sieve_check.specs.declared.string_flaws.StringFlaw.TheVariants.{Unknown}
 use Rattle.sieve_check.specs.declared.surroundings.Capabilities.{Capabilities}
 use Rattle.sieve_check.specs.Causes.{about, refused_for}
-use Rattle.sieve_check.specs.Rules.{lacking, lacking_cause, lacking_causes, string_has, strings_in, strings_of, unknown_causes}
+use Rattle.sieve_check.specs.Rules.{lacking, lacking_cause, lacking_causes, string_has, unknown_causes}
 use Rattle.sieve_check.specs.Surroundings.{has_capability}
-use Rattle.sieve_check.proofs.FromIndex.{split_at}
 
 pub lacking_both : (required : Capabilities) (xs ys : List Capability) → lacking_causes required (xs ++ ys) ≡ lacking_causes required xs ++ lacking_causes required ys
 lacking_both required xs ys =
@@ -45,14 +42,3 @@ module _ (token : ℕ) (name : List ℕ) where
       ap (λ xs. map (refused_for token name) (lacking_causes required xs)) (drop-cons list i other lt ∙ ap (λ n. x ∷ drop n list) (sym (add-one i)))
       ∙ ap (map (refused_for token name)) (lacking_both required (x ∷ []) (drop (i + 1) list))
       ∙ map-append (refused_for token name) (lacking_causes required (x ∷ [])) (lacking_causes required (drop (i + 1) list))
-
-  pub unknown_next : (list : List (List ℕ)) (i : ℕ) (x : List ℕ) → i < length list → x ≡ get_or list i x
-      → map (refused_for token name) (unknown_causes (drop i list)) ≡ map (refused_for token name) (unknown_causes (x ∷ [])) ++ map (refused_for token name) (unknown_causes (drop (i + 1) list))
-  unknown_next list i x lt is =
-      ap (λ xs. map (refused_for token name) (unknown_causes xs)) (split_at list i x lt is) ∙ unknown_then (x ∷ []) (drop (i + 1) list)
-
-  pub arguments_next : (list : List Argument) (i : ℕ) (x : Argument) → i < length list → x ≡ get_or list i x
-      → map (refused_for token name) (unknown_causes (strings_of (map argument_tree (drop i list)))) ≡ map (refused_for token name) (unknown_causes (strings_in (argument_tree x))) ++ map (refused_for token name) (unknown_causes (strings_of (map argument_tree (drop (i + 1) list))))
-  arguments_next list i x lt is =
-      ap (λ xs. map (refused_for token name) (unknown_causes (strings_of (map argument_tree xs)))) (split_at list i x lt is)
-      ∙ unknown_then (strings_in (argument_tree x)) (strings_of (map argument_tree (drop (i + 1) list)))

@@ -14,6 +14,7 @@ ghost use Rattle.std.specs.Prelude.{◌≡◌, ◌≤◌, length};
 ghost use Rattle.sieve_check.specs.ReasonView.{refused_view};
 ghost use Rattle.sieve_check.specs.Rules.{are_unknown, max_found, same_lack, same_reason, same_string};
 
+use crate::argument_strings::ArgumentStrings;
 use crate::causes::{Cause, ReasonKind, Refused};
 use crate::names::Capability;
 use crate::string_flaws::StringFlaw;
@@ -21,7 +22,7 @@ use crate::surroundings::Capabilities;
 use crate::variable_names::VariableNames;
 use arrayvec::ArrayVec;
 use octets::Octets;
-use sieve_parser::{Argument, Head};
+use sieve_parser::Head;
 
 /// The largest number of reasons that are reported for a script.
 pub const MAX_REASONS: usize = 20;
@@ -80,12 +81,11 @@ pub struct Findings<'t> {
 impl<'t> Findings<'t> {
     ghost use Rattle.std.specs.Prelude.{◌≡◌, [], ◌∷◌, map};
     ghost use Rattle.octets.specs.Once.{is_listed};
-    ghost use Rattle.sieve_parser.specs.View.{argument_tree};
     ghost use Rattle.sieve_check.specs.Causes.{refused_for};
     ghost use Rattle.sieve_check.specs.ReasonView.{refused_view};
     ghost use Rattle.sieve_check.specs.Private.{cause_view};
     ghost use Rattle.sieve_check.specs.Refusing.{AreNoted, listed, refused_in};
-    ghost use Rattle.sieve_check.specs.Rules.{lacking_causes, same_reason, strings_in, strings_of, unknown_causes};
+    ghost use Rattle.sieve_check.specs.Rules.{lacking_causes, same_reason, unknown_causes};
 
     /// No findings.
     pub fn new() -> Findings<'t>
@@ -158,38 +158,13 @@ impl<'t> Findings<'t> {
         }
     }
 
-    // Notes each of the strings of a `require` that isn't a capability.
-    fn refuse_all_unknown(&mut self, head: &'t Head, strings: &'t [Octets])
+    /// Notes each of the strings of a `require` that isn't a capability.
+    pub fn refuse_all_unknown(&mut self, head: &'t Head, mut strings: ArgumentStrings<'t>)
         ensures { AreNoted self.old (map (refused_for head.now.token head.now.name)
-            (unknown_causes strings.now)) self.new }
+            (unknown_causes strings.entry)) self.new }
     {
-        for string in strings {
+        'strings: while let Some(string) = strings.next() {
             self.refuse_unknown(head, string);
-        }
-    }
-
-    // Notes each string of the argument that isn't a capability.
-    fn refuse_argument(&mut self, head: &'t Head, argument: &'t Argument)
-        ensures { AreNoted self.old (map (refused_for head.now.token head.now.name)
-            (unknown_causes (strings_in (argument_tree argument.now)))) self.new }
-    {
-        match argument {
-            Argument::Text(string) => self.refuse_unknown(head, string),
-            Argument::TextList(first, others) => {
-                self.refuse_unknown(head, first);
-                self.refuse_all_unknown(head, others);
-            }
-            Argument::Number(_) | Argument::Tag(_) => {}
-        }
-    }
-
-    /// Notes each string of the arguments of a `require` that isn't a capability.
-    pub fn refuse_arguments(&mut self, head: &'t Head, arguments: &'t [Argument])
-        ensures { AreNoted self.old (map (refused_for head.now.token head.now.name)
-            (unknown_causes (strings_of (map argument_tree arguments.now)))) self.new }
-    {
-        for argument in arguments {
-            self.refuse_argument(head, argument);
         }
     }
 }

@@ -59,6 +59,7 @@
 //! `acts_are_called_as_their_commands`.
 #![tactic(auto)]
 
+mod argument_strings;
 mod arguments;
 mod causes;
 mod checked;

@@ -11,6 +11,7 @@ ghost use Rattle.sieve_check.specs.Private.{cause_view};
 ghost use Rattle.sieve_check.specs.Refusing.{Adds, listed, mentions_in, set_in};
 ghost use Rattle.sieve_check.specs.Rules.{first_text, large_cause, large_mention_cause, long_name, mention_cause, mentions_of, names_mentioned, no_mention, reference_kind, where_required};
 
+use crate::argument_strings::ArgumentStrings;
 use crate::causes::{Cause, ReasonKind};
 use crate::names::Capability;
 use crate::references::is_long_name;
@@ -130,7 +131,7 @@ impl<'t> Mentions<'t> {
     pub fn wrong_cause(self) -> Option<Cause<'t>>
         ensures { option_map cause_view result ≡ mention_cause (mentions_in self.entry) }
     {
-        if let Some(string) = StringFlaw::Wrong.first_in_lists(self.expanded) {
+        if let Some(string) = StringFlaw::Wrong.first_in(ArgumentStrings::in_lists(self.expanded)) {
             return Some(Cause::about(reference_kind(string), string));
         }
         let name = self.set?.as_slice();
@@ -142,7 +143,7 @@ impl<'t> Mentions<'t> {
     pub fn large_cause(self) -> Option<Cause<'t>>
         ensures { option_map cause_view result ≡ large_mention_cause (mentions_in self.entry) }
     {
-        if let Some(string) = StringFlaw::Large.first_in_lists(self.expanded) {
+        if let Some(string) = StringFlaw::Large.first_in(ArgumentStrings::in_lists(self.expanded)) {
             return Some(large_cause(string));
         }
         let name = self.set?.as_slice();
@@ -158,7 +159,7 @@ impl<'t> Mentions<'t> {
         ensures { Adds (listed names.old) (names_mentioned (mentions_in self.entry)) result
             (listed names.new) }
     {
-        names.add_lists(self.expanded)?;
+        names.add_strings(ArgumentStrings::in_lists(self.expanded))?;
         match self.set {
             Some(name) => names.add(name.as_slice()),
             None => Ok(()),

@@ -11,6 +11,7 @@ ghost use Rattle.sieve_check.specs.Rules.{capability_arguments, cause_of, comman
 ghost use Rattle.sieve_check.specs.Names.{command_named, row_named};
 ghost use Rattle.sieve_check.specs.Refusing.{AreNoted, AreVisited, Finds, context_of, mentions_in, refused_in};
 
+use crate::argument_strings::ArgumentStrings;
 use crate::causes::{Cause, ReasonKind};
 use crate::findings::Findings;
 use crate::mentions::Mentions;
@@ -111,13 +112,13 @@ fn needs_cause<'t>(required: Capabilities, row: &Row, head: &Head) -> Option<Cau
     }
 }
 
-// The arguments whose strings have to be capabilities.
-fn capability_arguments(follows: Follows, head: &Head) -> &[Argument]
-    ensures { map argument_tree result.now ≡ capability_arguments follows (arguments_of head.now) }
+// The strings that have to be capabilities.
+fn capability_strings(follows: Follows, head: &Head) -> ArgumentStrings<'_>
+    ensures { result ≡ strings_of (capability_arguments follows (arguments_of head.now)) }
 {
     match follows {
-        Follows::Requires => &head.arguments,
-        Follows::Branches | Follows::Others => &[],
+        Follows::Requires => ArgumentStrings::of(&head.arguments),
+        Follows::Branches | Follows::Others => ArgumentStrings::of(&[]),
     }
 }
 
@@ -125,7 +126,7 @@ fn capability_arguments(follows: Follows, head: &Head) -> &[Argument]
 fn unknown_cause<'t>(row: &Row, head: &'t Head) -> Option<Cause<'t>>
     ensures { option_map cause_view result ≡ unknown_cause (row_view row.now) (arguments_of head.now) }
 {
-    let string = StringFlaw::Unknown.first_in(capability_arguments(row.follows, head))?;
+    let string = StringFlaw::Unknown.first_in(capability_strings(row.follows, head))?;
     Some(Cause::about(ReasonKind::UnknownCapability, string))
 }
 
@@ -149,7 +150,7 @@ fn ending_cause<'t>(wanted: Option<Ending>, ending: Option<Ending>) -> Option<Ca
 fn long_string_cause(head: &Head) -> Option<Cause<'_>>
     ensures { option_map cause_view result ≡ long_string_cause (arguments_of head.now) }
 {
-    let string = StringFlaw::Long.first_in(&head.arguments)?;
+    let string = StringFlaw::Long.first_in(ArgumentStrings::of(&head.arguments))?;
     Some(Cause::about(ReasonKind::LongString, string))
 }
 
@@ -295,7 +296,7 @@ fn refuse_lacks<'t>(
     if let Some(row) = known_as {
         findings.refuse_lacking(head, required, row.needs);
         findings.refuse_lacking(head, required, mime_needs(row.signature, head));
-        findings.refuse_arguments(head, capability_arguments(row.follows, head));
+        findings.refuse_all_unknown(head, capability_strings(row.follows, head));
     }
 }
 

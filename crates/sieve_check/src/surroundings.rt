@@ -11,6 +11,7 @@ ghost use Rattle.sieve_check.specs.Private.{name_of, row_view};
 ghost use Rattle.sieve_check.specs.Rules.{invocation_of, loop_read, looks_inside, opens};
 ghost use Rattle.sieve_check.specs.Arguments.{reading};
 
+use crate::argument_strings::ArgumentStrings;
 use crate::loops::{LoopName, Loops};
 use crate::names::{Capability, capability_named};
 use crate::signature::{Signature, Tests};
@@ -33,7 +34,7 @@ pub struct Capabilities {
 impl Capabilities {
     ghost use Rattle.std.specs.Prelude.{◌≡◌, map};
     ghost use Rattle.sieve_parser.specs.View.{argument_tree};
-    ghost use Rattle.sieve_check.specs.Rules.{strings_in, strings_of};
+    ghost use Rattle.sieve_check.specs.Rules.{strings_of};
     ghost use Rattle.sieve_check.specs.Surroundings.{first_lacking, has_capability, requiring, with_capability, with_required};
 
     /// Whether the capability is there.
@@ -88,35 +89,14 @@ impl Capabilities {
         }
     }
 
-    // These and those of the names.
-    fn with_all(self, names: &[Octets]) -> Capabilities
-        ensures { result ≡ requiring names.now self }
-    {
-        let mut all = self;
-        for name in names {
-            all = all.with_named(name);
-        }
-        all
-    }
-
-    // These and those that an argument names.
-    fn with_argument(self, argument: &Argument) -> Capabilities
-        ensures { result ≡ requiring (strings_in (argument_tree argument.now)) self }
-    {
-        match argument {
-            Argument::Text(name) => self.with_named(name),
-            Argument::TextList(first, others) => self.with_named(first).with_all(others),
-            Argument::Number(_) | Argument::Tag(_) => self,
-        }
-    }
-
     // These and those that the arguments of a `require` name.
     fn requiring(self, arguments: &[Argument]) -> Capabilities
         ensures { result ≡ requiring (strings_of (map argument_tree arguments.now)) self }
     {
         let mut all = self;
-        for argument in arguments {
-            all = all.with_argument(argument);
+        let mut names = ArgumentStrings::of(arguments);
+        'names: while let Some(name) = names.next() {
+            all = all.with_named(name);
         }
         all
     }

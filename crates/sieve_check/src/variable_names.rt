@@ -6,12 +6,11 @@
 ghost use Rattle.std.specs.Prelude.{◌≤◌, length};
 ghost use Rattle.octets.specs.Limits.{max_variables};
 
+use crate::argument_strings::ArgumentStrings;
 use crate::causes::ReasonKind;
-use crate::signature::Lists;
 use arrayvec::ArrayVec;
 use bytecode_format::MAX_VARIABLES;
-use octets::{Octets, is_word};
-use sieve_parser::Argument;
+use octets::is_word;
 use sieve_references::{Segment, first_segment};
 
 /// The different names of variables, in the order of their first use, lent by the script. Case doesn't matter.
@@ -24,14 +23,11 @@ pub struct VariableNames<'t> {
 }
 
 impl<'t> VariableNames<'t> {
-    ghost use Rattle.std.specs.Prelude.{◌≡◌, [], ◌∷◌, bytes_eq, flat_map, map};
+    ghost use Rattle.std.specs.Prelude.{◌≡◌, [], ◌∷◌, bytes_eq, flat_map};
     ghost use Rattle.octets.specs.Ascii.{lowercase_of};
     ghost use Rattle.octets.specs.Once.{is_listed};
     ghost use Rattle.sieve_references.specs.References.{names_in};
-    ghost use Rattle.sieve_parser.specs.View.{argument_tree};
-    ghost use Rattle.sieve_check.specs.Reading.{all_lists};
     ghost use Rattle.sieve_check.specs.Refusing.{Adds, listed};
-    ghost use Rattle.sieve_check.specs.Rules.{strings_in, strings_of};
 
     /// No names.
     pub fn new() -> VariableNames<'t>
@@ -86,56 +82,18 @@ impl<'t> VariableNames<'t> {
         Ok(())
     }
 
-    // Adds the names in strings.
-    fn add_strings(&mut self, strings: &'t [Octets]) -> Result<(), ReasonKind>
-        ensures { Adds (listed self.old) (flat_map names_in strings.now) result (listed self.new) }
-    {
-        for string in strings {
-            self.add_string(string.as_slice())?;
-        }
-        Ok(())
-    }
-
-    // Adds the names in the strings of an argument.
-    fn add_argument(&mut self, argument: &'t Argument) -> Result<(), ReasonKind>
-        ensures { Adds (listed self.old)
-            (flat_map names_in (strings_in (argument_tree argument.now))) result (listed self.new) }
-    {
-        match argument {
-            Argument::Text(string) => self.add_string(string.as_slice()),
-            Argument::TextList(first, others) => {
-                self.add_string(first.as_slice())?;
-                self.add_strings(others)
-            }
-            Argument::Number(_) | Argument::Tag(_) => Ok(()),
-        }
-    }
-
-    // Adds the names in the strings of arguments. It is inlined, so that lists without arguments need no call.
-    #[inline(always)]
-    fn add_arguments(&mut self, arguments: &'t [Argument]) -> Result<(), ReasonKind>
-        ensures { Adds (listed self.old)
-            (flat_map names_in (strings_of (map argument_tree arguments.now))) result
-            (listed self.new) }
-    {
-        for argument in arguments {
-            self.add_argument(argument)?;
-        }
-        Ok(())
-    }
-
-    /// Adds the names in the strings of lists. It is inlined like [`add_arguments`](VariableNames::add_arguments).
+    /// Adds the names in strings. It is inlined, so that lists without strings need no call.
     ///
     /// # Errors
     ///
     /// `ReasonKind::ManyVariables` if there would be too many.
     #[inline(always)]
-    pub fn add_lists(&mut self, lists: Lists<'t>) -> Result<(), ReasonKind>
-        ensures { Adds (listed self.old) (flat_map names_in (strings_of (all_lists lists.entry)))
-            result (listed self.new) }
+    pub fn add_strings(&mut self, mut strings: ArgumentStrings<'t>) -> Result<(), ReasonKind>
+        ensures { Adds (listed self.old) (flat_map names_in strings.entry) result (listed self.new) }
     {
-        self.add_arguments(lists.first)?;
-        self.add_arguments(lists.params)?;
-        self.add_arguments(lists.others)
+        'strings: while let Some(string) = strings.next() {
+            self.add_string(string.as_slice())?;
+        }
+        Ok(())
     }
 }

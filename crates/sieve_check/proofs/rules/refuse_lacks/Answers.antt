@@ -1,6 +1,5 @@
-use Rattle.std.proofs.Common.{◌≡◌, ◌∙◌, ◌++◌, List, ap, map, subst}
+use Rattle.std.proofs.Common.{◌≡◌, ◌∙◌, ◌++◌, ℕ, List, ap, map, subst}
 use Rattle.std.proofs.lemmas.List.{map-append}
-use Rattle.sieve_parser.specs.Tree.{ArgumentTree}
 use Rattle.sieve_check.specs.declared.names.Capability.{Capability}
 use Rattle.sieve_check.specs.Causes.{refused_for}
 use Rattle.sieve_check.specs.Refusing.{AreNoted}
@@ -16,7 +15,7 @@ returns-in-Some c =
     let old = c.args.findings.now in
     let first = c.refuse_lacking.new.self in
     let between = c.refuse_lacking-in-Some.new.self in
-    let new = c.refuse_arguments.new.self in
+    let new = c.refuse_all_unknown.new.self in
     let head = c.args.head.now in
     let args = arguments_of head in
     let required = c.args.required in
@@ -33,4 +32,4 @@ returns-in-Some c =
     (both_noted old first between (map f lacks) (map f own) (map f with_mime) (ap (map f) (lacking_both required row.needs.now mime) ∙ map-append f own with_mime)
     c.refuse_lacking.ensures
     (subst (λ (xs : List Capability). AreNoted first (map f (lacking_causes required xs)) between) c.mime_needs.ensures c.refuse_lacking-in-Some.ensures))
-    (subst (λ (xs : List ArgumentTree). AreNoted between (map f (unknown_causes (strings_of xs))) new) c.capability_arguments.ensures c.refuse_arguments.ensures)
+    (subst (λ (xs : List (List ℕ)). AreNoted between (map f (unknown_causes xs)) new) c.capability_strings.ensures c.refuse_all_unknown.ensures)

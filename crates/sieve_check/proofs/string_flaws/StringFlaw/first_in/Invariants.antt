@@ -1,8 +1,10 @@
-use Rattle.std.proofs.Common.{◌≡◌, drop, map}
-use Rattle.sieve_parser.specs.View.{argument_tree}
-use Rattle.sieve_check.specs.Rules.{string_has, strings_of}
+use Rattle.std.proofs.Common.{◌≡◌, length}
+use Rattle.sieve_check.specs.Rules.{string_has}
 use Rattle.std.specs.List.{find}
 use Rattle.sieve_check.proofs.string_flaws.StringFlaw.first_in.Given as goal
 
-abbrev pub invariant-loop-argument : goal.invariant-loop-argument
-invariant-loop-argument l = find (string_has l.self) (strings_of (map argument_tree (drop l.argument-index l.arguments))) ≡ find (string_has l.self) (strings_of (map argument_tree l.arguments))
+abbrev pub invariant-strings : goal.invariant-strings
+invariant-strings l = find (string_has l.self) l.strings ≡ find (string_has l.self) l.fn.strings
+
+abbrev pub decreases-strings : goal.decreases-strings
+decreases-strings l = length l.strings
