@@ -3,6 +3,7 @@ pub mod Extents
 pub mod Keeping
 pub mod Lengths
 pub mod NotContained
+pub mod NotFitting
 pub mod Onward
 pub mod Pairs
 pub mod QuestionLemmas

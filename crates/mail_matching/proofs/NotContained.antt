@@ -1,8 +1,8 @@
 -- Keys that a text can't contain, because one of their bigrams isn't among its bigrams.
-use Rattle.std.proofs.Common.{◌≡◌, ◌≢◌, ℕ, zero, suc, ◌+◌, ◌-◌, ◌*◌, ◌/◌, ◌%◌, ◌^◌, ◌<◌, ◌≤◌, max, bit_and, bit_or, Bool, true, false, List, [], ◌∷◌, map, length, get_or, set, Option, None, Some, is_some, option_map, refl, sym, ◌∙◌, ap, arith, inl, inr, if◌then◌else◌}
+use Rattle.std.proofs.Common.{◌≡◌, ◌≢◌, ℕ, zero, suc, ◌+◌, ◌-◌, ◌*◌, ◌/◌, ◌%◌, ◌^◌, ◌<◌, ◌≤◌, ◌==◌, max, bit_and, bit_or, Bool, true, false, List, [], ◌∷◌, map, length, get_or, set, Option, None, Some, is_some, option_map, refl, sym, ◌∙◌, ap, arith, inl, inr, if◌then◌else◌}
 use Rattle.std.specs.Char.{to_ascii_uppercase}
 use Rattle.std.specs.Int.{bit_at, w32}
-use Rattle.std.proofs.lemmas.Bool.{cases_Bool, cases_lt, eqb-true, and_parts, false≢true}
+use Rattle.std.proofs.lemmas.Bool.{cases_Bool, cases_lt, eqb-true, eq-eqb, and_parts, false≢true}
 use Rattle.std.proofs.lemmas.Bool.Decides.{eqb_tells}
 use Rattle.std.proofs.lemmas.Grind.{get_or-set_at}
 use Rattle.std.proofs.lemmas.List.{get_or-set_other}
@@ -24,7 +24,7 @@ same_ending Octet x a same = ap (λ octet. octet % 32) (eqb-true x a same)
 same_ending Casemap x a same =
     sym (upper_ending x) ∙ ap (λ octet. octet % 32) (eqb-true (to_ascii_uppercase x) (to_ascii_uppercase a) same) ∙ upper_ending a
 
-same_bit : (comparator : Comparator) (rows : List ℕ) (x y a b : ℕ) → same_octet comparator x a ≡ true → same_octet comparator y b ≡ true → bit_of rows x y ≡ bit_of rows a b
+pub same_bit : (comparator : Comparator) (rows : List ℕ) (x y a b : ℕ) → same_octet comparator x a ≡ true → same_octet comparator y b ≡ true → bit_of rows x y ≡ bit_of rows a b
 same_bit comparator rows x y a b first second =
     ap (λ row. bit_at (get_or rows row 0) (y % 32)) (same_ending comparator x a first)
     ∙ ap (bit_at (get_or rows (a % 32) 0)) (same_ending comparator y b second)
@@ -35,7 +35,7 @@ module _ (comparator : Comparator) (rows : List ℕ) where
   abbrev begins_key : List ℕ → List ℕ → Bool
   begins_key key text = begins_with comparator (map Literal key) text
 
-  rest_covered : (x : ℕ) (xs : List ℕ) → Covers rows (x ∷ xs) → Covers rows xs
+  pub rest_covered : (x : ℕ) (xs : List ℕ) → Covers rows (x ∷ xs) → Covers rows xs
   rest_covered x xs covers = record {
     sets = λ place within.
         let same : suc (place + 1) ≡ suc place + 1 = omega arith in
@@ -90,14 +90,12 @@ passed_over rows key first second next within unset comparator text covers =
     λ set. unset (ap (λ place. bit_of rows (get_or key first 0) (get_or key place 0)) (sym next) ∙ set) in
     not_within comparator rows key first (omega arith) unset_next text covers
 
-differ : (m n : ℕ) → m ≡ n → m ≡ 0 → n ≡ 1 → ⊥
-differ m n same none one = omega arith
-
 -- what the code looks at
-pub bigram_unset : (rows : List ℕ) (row a b : ℕ) → row ≡ a % 32 → bit_and (get_or rows row 0 / 2 ^ (b % 32)) 1 ≡ 0 → bit_of rows a b ≢ 1
-bigram_unset rows row a b at clear =
-    differ (bit_and (get_or rows row 0 / 2 ^ (b % 32)) 1) (bit_of rows a b)
-    (shr_and_one (get_or rows row 0) (b % 32) ∙ ap (λ place. bit_at (get_or rows place 0) (b % 32)) at) clear
+pub bigram_at : (rows : List ℕ) (row a b : ℕ) → row ≡ a % 32 → bit_and (get_or rows row 0 / 2 ^ (b % 32)) 1 ≡ bit_of rows a b
+bigram_at rows row a b at = shr_and_one (get_or rows row 0) (b % 32) ∙ ap (λ place. bit_at (get_or rows place 0) (b % 32)) at
+
+pub unset : (bit : ℕ) → (bit == 1) ≡ false → bit ≢ 1
+unset bit test = λ is. false≢true (sym test ∙ eq-eqb bit 1 is)
 
 -- ---- setting a bit
 

@@ -5,7 +5,7 @@ use Rattle.std.specs.Option.{option_or}
 use Rattle.glob_match.specs.Captures.{texts}
 use Rattle.glob_match.specs.declared.comparator.Comparator.{Comparator}
 use Rattle.glob_match.specs.declared.match_type.Match.{Match}
-use Rattle.glob_match.specs.declared.match_type.MatchType.TheVariants.{Contains}
+use Rattle.glob_match.specs.declared.match_type.MatchType.TheVariants.{Is}
 use Rattle.mail_matching.specs.Costs.{extent_of}
 use Rattle.mail_matching.specs.Findings.{finding_of, is_pair, shortened}
 use Rattle.mail_matching.specs.declared.comparing.Compared.{Compared}
@@ -28,9 +28,9 @@ key_in Differs = None
 key_in (Matches key) = Some key.now
 key_in (Sets key stretches) = Some key.now
 
--- how `:contains` matches under a comparator
-abbrev pub containing : Comparator → Match
-containing comparator = record { kind = Contains; comparator = comparator }
+-- how `:is` matches under a comparator
+abbrev pub equalling : Comparator → Match
+equalling comparator = record { kind = Is; comparator = comparator }
 
 -- what values come to and then others
 abbrev pub further : Finding → Finding → Finding
