@@ -1,6 +1,7 @@
 -- No line of an answer begins with `= `.
 use Rattle.std.proofs.Common.{◌≡◌, ◌∙◌, refl, sym, ap, cond, codes, Bool, true, false, ◌++◌, ℕ, List, [], ◌∷◌, map, Option, Some, None, true≢false}
 use Rattle.std.specs.Prelude.{filter}
+use Rattle.std.specs.Borrow.{Bor}
 use Rattle.std.specs.List.{list_all}
 use Rattle.std.specs.Fmt.{decimal}
 use Rattle.sqlite_trees.specs.declared.store.Store.{Ghosts}
@@ -17,17 +18,17 @@ use Rattle.refusals.specs.Lines.{name_of, number_of, place_of, place_text, refus
 use Rattle.refusals.specs.declared.refusal.Refusal.{Refusal}
 use Rattle.refusals.specs.declared.refusal.Refusal.TheVariants.{Memory}
 use Rattle.printing.specs.Printed.{line, quoted, refusal_line}
-use Rattle.depot_jobs.specs.Requests.{Request}
 use Rattle.depot_jobs.specs.declared.request.Access.TheVariants as accesses
 use Rattle.depot_jobs.specs.declared.request.Deposit.TheVariants as deposits
-use Rattle.depot_jobs.specs.declared.request.OnDepot.TheVariants.{FromFile, OnUser, Export, Migrate}
+use Rattle.depot_cli.specs.declared.task.WithReply.{WithReply}
+use Rattle.depot_cli.specs.declared.task.WithReply.TheVariants.{FromFile, OnUser, Migrate}
 use Rattle.depot_cli.specs.Printed.{entries_text, entry_text, kind_text, reply_text}
-use Rattle.depot_cli.specs.Requests.{request_command}
+use Rattle.depot_cli.specs.Requests.{on_depot, request_command}
 use Rattle.depot_cli.specs.Tasks.{HasDone}
 use Rattle.depot_cli.specs.declared.entries.Detail.TheVariants.{Brief, Full}
 use Rattle.depot_batch.specs.Batch.{Did}
 use Rattle.depot_batch.specs.Effects.{DepotAndOutput, HasCome, IsDone}
-use Rattle.depot_batch.specs.Asked.{Asks, Text, wrong_line}
+use Rattle.depot_batch.specs.Asked.{Text, wrong_line}
 use Rattle.depot_batch.specs.Closings.{has_closing}
 use Rattle.depot_batch.specs.declared.asked.Asked.{Asked}
 use Rattle.depot_batch.specs.declared.asked.Asked.TheVariants.{Reply, Export as IntoFile}
@@ -142,17 +143,16 @@ listed_since user number reply old new before done clean stands plain =
     ap (λ r. has_closing true (reply_text (depot.ListSince user number) r)) is
     ∙ full_closes_none _ (plain_listed (entries_since user number before) (plain_some _ (entries_of user before) (plain_some _ before.entries plain)))
 
-replied : (request : Request) (octets : List ℕ) (words : List Text) (reply : DepotReply) (old new : State) (before : Entries) → Asks words (Reply request)
-    → HasDone (request_command request octets) reply old new → HasCleanDisk new → Stands old.now before → HavePlainMedia before
-    → has_closing true (reply_text (request_command request octets) reply) ≡ false
-replied (FromFile deposits.Script user file) octets words reply old new before asks done clean stands plain = refl
-replied (FromFile deposits.Code user file) octets words reply old new before asks done clean stands plain = refl
-replied (FromFile deposits.Message user file) octets words reply old new before asks done clean stands plain = delivered reply user.now octets
-replied (OnUser accesses.List user) octets words reply old new before asks done clean stands plain = listed user.now reply old new before done clean stands plain
-replied (OnUser (accesses.Since number) user) octets words reply old new before asks done clean stands plain = listed_since user.now number reply old new before done clean stands plain
-replied (Export user number encoding) octets words reply old new before asks done clean stands plain = absurd asks
-replied (OnUser (accesses.Remove number) user) octets words reply old new before asks done clean stands plain = numbered_safe (codes "removed ") number (refl, refl)
-replied Migrate octets words reply old new before asks done clean stands plain = migrated reply
+replied : (command : WithReply (Bor Text)) (octets : List ℕ) (reply : DepotReply) (old new : State) (before : Entries)
+    → HasDone (request_command (on_depot command) octets) reply old new → HasCleanDisk new → Stands old.now before → HavePlainMedia before
+    → has_closing true (reply_text (request_command (on_depot command) octets) reply) ≡ false
+replied (FromFile deposits.Script user file) octets reply old new before done clean stands plain = refl
+replied (FromFile deposits.Code user file) octets reply old new before done clean stands plain = refl
+replied (FromFile deposits.Message user file) octets reply old new before done clean stands plain = delivered reply user.now octets
+replied (OnUser accesses.List user) octets reply old new before done clean stands plain = listed user.now reply old new before done clean stands plain
+replied (OnUser (accesses.Since number) user) octets reply old new before done clean stands plain = listed_since user.now number reply old new before done clean stands plain
+replied (OnUser (accesses.Remove number) user) octets reply old new before done clean stands plain = numbered_safe (codes "removed ") number (refl, refl)
+replied Migrate octets reply old new before done clean stands plain = migrated reply
 
 -- ---- what is refused, or wrong
 
@@ -189,19 +189,19 @@ wrong_closes_none faults.Encoding = refl
 -- ---- answers
 
 module _ {S : Type 0} (g : Ghosts S) where
-  done_closes_none : (name : List ℕ) (asked : Asked) (words : List Text) (text : List ℕ) (old new : DepotAndOutput (Held S)) (before : Entries) → Asks words asked
+  done_closes_none : (name : List ℕ) (asked : Asked) (text : List ℕ) (old new : DepotAndOutput (Held S)) (before : Entries)
       → IsDone (Did g old.depot new.depot) name asked text old.host new.host → HasCleanDisk (state g new.depot) → Stands (state g old.depot).now before
       → HavePlainMedia before → has_closing true text ≡ false
-  done_closes_none name (Reply request) words text old new before asks done clean stands plain =
+  done_closes_none name (Reply command) text old new before done clean stands plain =
       let answered = done.2 in
       ap (has_closing true) answered.2
-      ∙ replied request done.0 words answered.0 (state g old.depot) (state g new.depot) before asks answered.1 clean stands plain
-  done_closes_none name (IntoFile export) words text old new before asks done clean stands plain =
+      ∙ replied command done.0 answered.0 (state g old.depot) (state g new.depot) before answered.1 clean stands plain
+  done_closes_none name (IntoFile export) text old new before done clean stands plain =
       ap (has_closing true) done.0 ∙ numbered_safe (codes "exported ") export.number (refl, refl)
 
   pub closes_none : (name octets : List ℕ) (outcome : Outcome) (text : List ℕ) (old new : DepotAndOutput (Held S)) → HasCome (Did g old.depot new.depot) name octets outcome text old.host new.host
       → HasCleanDisk (state g new.depot) → (before : Entries) → Stands (state g old.depot).now before → HavePlainMedia before → has_closing true text ≡ false
   closes_none name octets Done text old new come clean before stands plain =
-      done_closes_none name come.0 come.1.0 text old new before come.1.2 come.2 clean stands plain
+      done_closes_none name come.0 text old new before come.2 clean stands plain
   closes_none name octets (Refused refusal) text old new come clean before stands plain = ap (has_closing true) come.0 ∙ refused_closes_none refusal
   closes_none name octets Wrong text old new come clean before stands plain = ap (has_closing true) come.2 ∙ wrong_closes_none come.0

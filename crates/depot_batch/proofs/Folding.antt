@@ -11,10 +11,10 @@ use Rattle.depot_actions.specs.Deliveries.{calls_of}
 use Rattle.depot_actions.specs.DepotState.{Command, Does, Export as Exports, Listed, Reply as DepotReply, Text as Written}
 use Rattle.depot_actions.specs.History.{AreSteps, Call}
 use Rattle.depot_jobs.specs.Host.{HostState}
-use Rattle.depot_cli.specs.Requests.{request_command}
+use Rattle.depot_cli.specs.Requests.{on_depot, request_command}
 use Rattle.depot_batch.specs.Asked.{Text}
 use Rattle.depot_jobs.specs.declared.request.Deposit.TheVariants.{Message}
-use Rattle.depot_jobs.specs.declared.request.OnDepot.TheVariants.{FromFile}
+use Rattle.depot_cli.specs.declared.task.WithReply.TheVariants.{FromFile}
 use Rattle.refusals.specs.declared.refusal.Refusal.{Refusal}
 use Rattle.depot_batch.specs.Batch.{AreCallsIn, AreCallsOf, AreTaken, Did, IsCallFor, IsMadeAtOne}
 use Rattle.depot_batch.specs.Effects.{AreDeliveries, DepotAndOutput, HasCome, HasHappened, IsAsked, IsDone, IsRefused}
@@ -97,15 +97,15 @@ module _ {S : Type 0} (g : Ghosts S) where
   module _ (name line : List ℕ) (old new : Held S) (host host2 : HostState) (before : Entries) (clean : HasCleanDisk (state g new))
       (given : IsTrue (state g old).is_open → Stands (state g old).now before) where
     done_went : (asked : Asked) (text : List ℕ) → IsAsked line asked → IsDone (Did g old new) name asked text host host2 → Went name (line ∷ []) host before (state g new)
-    done_went (Reply request) text is done =
+    done_went (Reply command) text is done =
         let answered = done.2 in
-        did name line (Reply request) (request_command request done.0) answered.0 host host2 (state g old) (state g new) before is (done.0, done.1, answered.0, refl) (answered.1 clean) given
+        did name line (Reply command) (request_command (on_depot command) done.0) answered.0 host host2 (state g old) (state g new) before is (done.0, done.1, answered.0, refl) (answered.1 clean) given
     done_went (IntoFile export) text is done =
         let made = done.1 in
         did name line (IntoFile export) (Exports export.user.now export.number export.encoding) (Written made.0) host host2 (state g old) (state g new) before is (made.0, made.1, refl) (made.2 clean) given
 
     refused_went : (asked : Asked) (refusal : Refusal) → IsRefused (Did g old new) name asked refusal host host2 → Went name [] host before (state g new)
-    refused_went (Reply request) refusal refused = elim refused [
+    refused_went (Reply command) refusal refused = elim refused [
       | inl unread ↦ same name host old new before unread.1 given
       | inr asked ↦ unchanged name host (state g old) (state g new) before (asked.2.1 clean).2 given
     ]

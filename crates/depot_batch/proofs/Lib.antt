@@ -9,7 +9,7 @@ mod Batches
 mod Readying
 pub mod Grouping
 mod Closing
-mod Refusing
+mod Replying
 mod Rest
 mod ClosingAnswers
 mod Exporting

@@ -6,7 +6,7 @@ use Rattle.encodings.specs.Names.{encoding_of}
 use Rattle.depot_jobs.specs.Words.{IsNoRequest, IsNumberText, word_of}
 use Rattle.depot_jobs.specs.declared.request.Access.TheVariants as accesses
 use Rattle.depot_jobs.specs.declared.request.Deposit.TheVariants.{Script, Code, Message}
-use Rattle.depot_jobs.specs.declared.request.OnDepot.TheVariants as requests
+use Rattle.depot_cli.specs.declared.task.WithReply.TheVariants as replied
 use Rattle.depot_batch.specs.declared.asked.Asked.{Asked}
 use Rattle.depot_batch.specs.declared.asked.Asked.TheVariants.{Reply, Export as IntoFile}
 use Rattle.depot_batch.specs.declared.asked.LineFault.{LineFault}
@@ -25,16 +25,15 @@ pub record IsNumberFrom (least : ℕ) (text : Text) (number : ℕ) : Type 0 wher
   pub value : number ≡ digits_value 10 (without_leading_plus text)
   pub enough : least ≤ number
 
--- words ask for this; for an export always with its file, so for none that a depot replies to
+-- words ask for this
 abbrev pub Asks : List Text → Asked → Type 0
-Asks words (Reply (requests.FromFile deposit user file)) = words ≡ word_of deposit ∷ user.now ∷ file.now ∷ []
-Asks words (Reply (requests.OnUser accesses.List user)) = words ≡ codes "list" ∷ user.now ∷ []
-Asks words (Reply (requests.OnUser (accesses.Since number) user)) =
+Asks words (Reply (replied.FromFile deposit user file)) = words ≡ word_of deposit ∷ user.now ∷ file.now ∷ []
+Asks words (Reply (replied.OnUser accesses.List user)) = words ≡ codes "list" ∷ user.now ∷ []
+Asks words (Reply (replied.OnUser (accesses.Since number) user)) =
     (digits : Text) × (words ≡ codes "since" ∷ user.now ∷ digits ∷ []) × IsNumberFrom 0 digits number
-Asks words (Reply (requests.OnUser (accesses.Remove number) user)) =
+Asks words (Reply (replied.OnUser (accesses.Remove number) user)) =
     (digits : Text) × (words ≡ codes "remove" ∷ user.now ∷ digits ∷ []) × IsNumberFrom 1 digits number
-Asks words (Reply (requests.Export user number encoding)) = ⊥
-Asks words (Reply requests.Migrate) = words ≡ codes "migrate" ∷ []
+Asks words (Reply replied.Migrate) = words ≡ codes "migrate" ∷ []
 Asks words (IntoFile export) =
     (digits name : Text) × (words ≡ codes "export" ∷ export.user.now ∷ digits ∷ name ∷ export.file.now ∷ [])
     × IsNumberFrom 1 digits export.number

@@ -14,7 +14,7 @@ use Rattle.devices.specs.Supply.{Supply}
 use Rattle.depot_jobs.specs.Host.{HasMade, HostState}
 use Rattle.depot_jobs.specs.Jobs.{HasTold}
 use Rattle.depot_jobs.specs.Inputs.{HasReadFile, file_of}
-use Rattle.depot_cli.specs.Requests.{request_command}
+use Rattle.depot_cli.specs.Requests.{on_depot, request_command}
 use Rattle.depot_cli.specs.Tasks.{HasDone, HasRefused}
 use Rattle.refusals.specs.declared.refusal.Refusal.{Refusal}
 use Rattle.depot_batch.specs.Asked.{Text}
@@ -80,9 +80,9 @@ module _ {S : Type 0} (g : Ghosts S) where
 -- A call of a depot does what is asked: a request with the octets that were read of its file; or an
 -- export, whose text was made a file.
 abbrev pub IsCallFor : Text → Asked → Call → HostState → HostState → Type 0
-IsCallFor name (Reply request) call host host2 =
-    (octets : List ℕ) × HasReadFile (file_of request) octets host host2
-    × (reply : DepotReply) × (call ≡ record { command = request_command request octets; reply = Some reply })
+IsCallFor name (Reply command) call host host2 =
+    (octets : List ℕ) × HasReadFile (file_of (on_depot command)) octets host host2
+    × (reply : DepotReply) × (call ≡ record { command = request_command (on_depot command) octets; reply = Some reply })
 IsCallFor name (IntoFile export) call host host2 =
     (text : List ℕ) × HasMade export.file.now name text host host2
     × (call ≡ record { command = Exports export.user.now export.number export.encoding; reply = Some (Written text) })

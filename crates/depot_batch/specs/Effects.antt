@@ -12,11 +12,11 @@ use Rattle.depot_jobs.specs.Host.{HasMade, HasNotMade, HostState, makes, with_ca
 use Rattle.printing.specs.Printed.{line, refusal_line}
 use Rattle.depot_jobs.specs.Inputs.{HasNotReadFile, HasReadFile, file_of}
 use Rattle.depot_cli.specs.Printed.{entries_text, reply_text}
-use Rattle.depot_cli.specs.Requests.{request_command}
+use Rattle.depot_cli.specs.Requests.{on_depot, request_command}
 use Rattle.depot_cli.specs.declared.entries.Detail.TheVariants.{Brief}
 use Rattle.depot_jobs.specs.Requests.{Request}
 use Rattle.depot_jobs.specs.declared.request.Deposit.TheVariants.{Message}
-use Rattle.depot_jobs.specs.declared.request.OnDepot.TheVariants.{FromFile}
+use Rattle.depot_cli.specs.declared.task.WithReply.TheVariants.{FromFile}
 use Rattle.refusals.specs.declared.refusal.Refusal.{Refusal}
 use Rattle.refusals.specs.declared.refusal.Refusal.TheVariants.{Memory, Write}
 use Rattle.depot_batch.specs.Asked.{AskNothing, Asks, Text, wrong_line}
@@ -113,12 +113,12 @@ module _ (Did : Effect → Type 0) where
 
   -- what is asked was done, with this text as the answer
   abbrev pub IsDone : Text → Asked → List ℕ → HostState → HostState → Type 0
-  IsDone name (Reply request) text host host2 = HasReplied request text host host2
+  IsDone name (Reply command) text host host2 = HasReplied (on_depot command) text host host2
   IsDone name (IntoFile export) text host host2 = (text ≡ exported_text export.number) × HasExported name export host host2
 
   -- it was refused
   abbrev pub IsRefused : Text → Asked → Refusal → HostState → HostState → Type 0
-  IsRefused name (Reply request) refusal host host2 = HasNotReplied request refusal host host2
+  IsRefused name (Reply command) refusal host host2 = HasNotReplied (on_depot command) refusal host host2
   IsRefused name (IntoFile export) refusal host host2 = HasNotExported name export refusal host host2
 
   -- nothing happened to the depot and the host
@@ -142,7 +142,7 @@ abbrev pub IsDelivery : List ℕ → Command → HostState → HostState → Typ
 IsDelivery line command host host2 =
     (user file : Bor Text) × IsAsked line (Reply (FromFile Message user file))
     × (octets : List ℕ) × HasReadFile (Some file.now) octets host host2
-    × (command ≡ request_command (FromFile Message user file) octets)
+    × (command ≡ request_command (on_depot (FromFile Message user file)) octets)
 
 -- each line does, and the files were read in turn
 abbrev pub AreDeliveries : List (List ℕ) → List Command → HostState → HostState → Type 0
@@ -223,9 +223,9 @@ module _ {D : Type 0} (Did : D → D → Effect → Type 0) where
 -- makes with the octets that were read of its file. An export only looks. What a command makes, or what
 -- commands make, all of them, is said elsewhere.
 abbrev pub MayMake : {A : Type 0} → (Command → A → Type 0) → Asked → HostState → HostState → A → Type 0
-MayMake Makes (Reply request) host host2 made =
-    (octets : List ℕ) × HasReadFile (file_of request) octets host host2
-    × Makes (request_command request octets) made
+MayMake Makes (Reply command) host host2 made =
+    (octets : List ℕ) × HasReadFile (file_of (on_depot command)) octets host host2
+    × Makes (request_command (on_depot command) octets) made
 MayMake Makes (IntoFile export) host host2 made = ⊥
 
 -- of a line

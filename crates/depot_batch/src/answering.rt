@@ -1,20 +1,19 @@
 // The answer to what a line asks for.
-ghost use Rattle.std.specs.Prelude.{◌≡◌, List, IfErr, IfOk, OnOk};
+ghost use Rattle.std.specs.Prelude.{◌≡◌, IfErr, IfOk, OnOk};
 ghost use Rattle.sqlite.specs.Held.{state};
 ghost use Rattle.sqlite.specs.State.{Survives};
 ghost use Rattle.depot_jobs.specs.Host.{with_faults};
 ghost use Rattle.depot_actions.specs.Applying.{MayAdd};
-ghost use Rattle.depot_cli.specs.Requests.{command_of, request_command};
 ghost use Rattle.depot_cli.specs.Printed.{text_in as reply_text};
+ghost use Rattle.depot_cli.specs.Requests.{on_depot};
 ghost use Rattle.depot_batch.specs.Answers.{text_in};
-ghost use Rattle.depot_batch.specs.Asked.{Asks, Text};
 ghost use Rattle.depot_batch.specs.Batch.{Did};
 ghost use Rattle.depot_batch.specs.Effects.{HasExported, HasNotExported, HasNotReplied, HasReplied, IsDone, IsRefused, MayMake};
 
 use crate::asked::{Asked, Export};
 use depot_actions::Depot;
-use depot_cli::{Reply, reply_to};
-use depot_jobs::{Host, MadeFrom, Request, Task, read_file_of};
+use depot_cli::{Reply, WithReply, reply_to};
+use depot_jobs::{Host, MadeFrom, Request, read_file_of};
 use devices::{DeviceFailed, Sink};
 use refusals::Refusal;
 use sqlite::Alter;
@@ -33,10 +32,6 @@ pub enum Answer {
 /// file of an export, whole or not at all. `name` is the name of the depot's file: an export doesn't overwrite that, or
 /// a file that the depot has next to it.
 ///
-/// # Requires
-///
-/// `asked` is what the words of some line ask for, as [`crate::asked_by`] returns it.
-///
 /// # Errors
 ///
 /// The depot is as it was.
@@ -52,7 +47,6 @@ pub fn answer_to<S: Alter, H: Host>(
     depot: &mut Depot<S>,
     host: &mut H,
 ) -> Result<Answer, Refusal>
-    requires { (words : List Text) × Asks words asked }
     ensures done { IfOk result (λ answer. IsDone (Did S.Store depot.old depot.new) name.now asked.entry
         (text_in answer) (H.state host.old) (H.state host.new)) }
     ensures refused { IfErr result (λ e. IsRefused (Did S.Store depot.old depot.new) name.now
@@ -62,7 +56,7 @@ pub fn answer_to<S: Alter, H: Host>(
         (H.state host.old) (H.state host.new)) }
 {
     match asked {
-        Asked::Reply(request) => match reply(alloc, request, depot, host) {
+        Asked::Reply(command) => match reply(alloc, command, depot, host) {
             Ok(reply) => Ok(Answer::Replied(reply)),
             Err(refusal) => Err(refusal),
         },
@@ -76,36 +70,34 @@ pub fn answer_to<S: Alter, H: Host>(
     }
 }
 
-// Reads the file of a request, and has the depot do its task.
+// Reads the file of a command, and has the depot do it.
 fn reply<S: Alter, H: Host>(
     alloc: Global,
-    request: Request<'_>,
+    command: WithReply<'_, &str>,
     depot: &mut Depot<S>,
     host: &mut H,
 ) -> Result<Reply, Refusal>
-    requires { (words : List Text) × Asks words (Asked.Reply request) }
-    ensures done { IfOk result (λ reply. HasReplied (Did S.Store depot.old depot.new) request.entry
-        (reply_text reply) (H.state host.old) (H.state host.new)) }
-    ensures refused { IfErr result (λ e. HasNotReplied (Did S.Store depot.old depot.new) request.entry
-        e (H.state host.old) (H.state host.new)) }
+    ensures done { IfOk result (λ reply. HasReplied (Did S.Store depot.old depot.new)
+        (on_depot command.entry) (reply_text reply) (H.state host.old) (H.state host.new)) }
+    ensures refused { IfErr result (λ e. HasNotReplied (Did S.Store depot.old depot.new)
+        (on_depot command.entry) e (H.state host.old) (H.state host.new)) }
     ensures survives { Survives (state S.Store depot.old) (state S.Store depot.new)
         (MayMake (λ command. MayAdd command (state S.Store depot.old))
-        (Asked.Reply request.entry) (H.state host.old) (H.state host.new)) }
+        (Asked.Reply command.entry) (H.state host.old) (H.state host.new)) }
 {
-    match read_file_of(alloc, request, host) {
-        Ok(octets) => {
-            let task = task_of(request, octets);
-            reply_to(alloc, &task, depot)
+    match command {
+        WithReply::FromFile(deposit, user, file) => {
+            let request = Request::FromFile(deposit, user, file);
+            let octets = read_file_of(alloc, request, host)?;
+            reply_to(
+                alloc,
+                WithReply::FromFile(deposit, user, octets.as_slice()),
+                depot,
+            )
         }
-        Err(refusal) => Err(refusal),
+        WithReply::OnUser(access, user) => reply_to(alloc, WithReply::OnUser(access, user), depot),
+        WithReply::Migrate => reply_to(alloc, WithReply::Migrate, depot),
     }
-}
-
-// The task of a request, with the bytes of its file: it asks the depot for what the request asks.
-fn task_of<'a>(request: Request<'a>, octets: Vec<u8>) -> Task<'a>
-    ensures { command_of result ≡ request_command request.entry octets.items }
-{
-    request.with_octets(octets)
 }
 
 // Makes the text of an entry a file, whole or not at all.

@@ -8,14 +8,15 @@ ghost use Rattle.depot_jobs.specs.Words.{IsNoRequest};
 ghost use Rattle.depot_batch.specs.Asked.{Asks, AskNothing, IsNumberFrom, least_number, name_of, sentence_of, usage_of};
 ghost use Rattle.depot_batch.specs.declared.asked.LineFault.TheVariants as faults;
 
-use depot_jobs::{Access, Deposit, Request};
+use depot_cli::WithReply;
+use depot_jobs::{Access, Deposit};
 use encodings::Encoding;
 
 /// The command that a line asks for. [`asked_by`] makes it from the line's words, and a batch does it.
 #[derive(Clone, Copy)]
 pub enum Asked<'a> {
-    /// A command to which the depot has a reply. It isn't an export.
-    Reply(Request<'a>),
+    /// A command to which the depot has a reply, with the name of its file.
+    Reply(WithReply<'a, &'a str>),
     /// Write an entry's bytes in an encoding to a file.
     Export(Export<'a>),
 }
@@ -129,11 +130,11 @@ fn asked_in<'a>(form: Form, rest: &[&'a str]) -> Result<Asked<'a>, LineFault>
 {
     match (form, rest) {
         (Form::FromFile(deposit), [user, file]) => {
-            Ok(Asked::Reply(Request::FromFile(deposit, user, file)))
+            Ok(Asked::Reply(WithReply::FromFile(deposit, user, file)))
         }
-        (Form::List, [user]) => Ok(Asked::Reply(Request::OnUser(Access::List, user))),
+        (Form::List, [user]) => Ok(Asked::Reply(WithReply::OnUser(Access::List, user))),
         (Form::Since, [user, digits]) => match number_of(form, digits) {
-            Some(number) => Ok(Asked::Reply(Request::OnUser(Access::Since { number }, user))),
+            Some(number) => Ok(Asked::Reply(WithReply::OnUser(Access::Since { number }, user))),
             None => Err(LineFault::Number(form)),
         },
         (Form::Export, [user, digits, name, file]) => {
@@ -149,10 +150,10 @@ fn asked_in<'a>(form: Form, rest: &[&'a str]) -> Result<Asked<'a>, LineFault>
             }
         }
         (Form::Remove, [user, digits]) => match number_of(form, digits) {
-            Some(number) => Ok(Asked::Reply(Request::OnUser(Access::Remove { number }, user))),
+            Some(number) => Ok(Asked::Reply(WithReply::OnUser(Access::Remove { number }, user))),
             None => Err(LineFault::Number(form)),
         },
-        (Form::Migrate, []) => Ok(Asked::Reply(Request::Migrate)),
+        (Form::Migrate, []) => Ok(Asked::Reply(WithReply::Migrate)),
         _ => Err(LineFault::Form(form)),
     }
 }

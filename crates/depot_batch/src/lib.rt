@@ -7,7 +7,7 @@
 //!
 //! `43 Database` ends a batch: a failure of the disk can have shut the store, no call asks a store whether one has, and
 //! a shut store refuses everything after that. So a stored filter that is no accepted program any more ends a batch,
-//! too. A line that exports names a file, which no request does, so it is an `Export`, apart from the requests.
+//! too. A line that exports names the file to make, so it is an `Export`; all others ask what the depot replies to.
 //!
 //! # Promises
 //!
@@ -64,10 +64,9 @@
 //! what one of the turns makes of what those before it left, with the bytes that were read of its files, whole
 //! (`crashes_leave_one_turn_whole`). So of lines that are done together it leaves all or none.
 //!
-//! By `batch`, `words_of`, `asked_by`; `reply_to` of depot_cli; `Request::file`, `Request::with_octets`,
-//! `read_file_of` of depot_jobs; `Depot::deliver_all` of depot_actions; laws `lines_say_their_words`,
-//! `lines_are_taken_as_answered`, `turns_are_at_most_twice_the_lines`, `batches_are_a_fold`,
-//! `crashes_leave_one_turn_whole`, `no_answer_closes_itself`.
+//! By `batch`, `words_of`, `asked_by`; `reply_to` of depot_cli; `read_file_of` of depot_jobs; `Depot::deliver_all` of
+//! depot_actions; laws `lines_say_their_words`, `lines_are_taken_as_answered`, `turns_are_at_most_twice_the_lines`,
+//! `batches_are_a_fold`, `crashes_leave_one_turn_whole`, `no_answer_closes_itself`.
 #![tactic(auto)]
 
 mod ahead;

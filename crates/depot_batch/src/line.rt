@@ -3,13 +3,12 @@
 // If the input ends within a line, the line isn't done: its writer can have died within it, and `remove ann 1` can be
 // the beginning of `remove ann 12`. It is reported as no command. Nothing is read after it, because on a growing file
 // the rest of the line would be taken for a command of its own.
-ghost use Rattle.std.specs.Prelude.{◌≡◌, List, [], IfErr, IfOk, OnErr, map};
+ghost use Rattle.std.specs.Prelude.{◌≡◌, [], IfErr, IfOk, OnErr, map};
 ghost use Rattle.sqlite.specs.Held.{state};
 ghost use Rattle.sqlite.specs.State.{Survives};
 ghost use Rattle.devices.specs.Device.{HasPut};
 ghost use Rattle.depot_actions.specs.Applying.{MayAdd};
 ghost use Rattle.depot_batch.specs.Answers.{AreNoTexts, HasComeOf, HasLineWords, IsReportOn, IsUnasked, answer_text, outcome_of, unasked_report};
-ghost use Rattle.depot_batch.specs.Asked.{Asks, Text};
 ghost use Rattle.depot_batch.specs.Batch.{Did, Happens};
 ghost use Rattle.depot_batch.specs.Effects.{MayMake};
 ghost use Rattle.depot_batch.specs.Private.{on, places_of};
@@ -142,10 +141,6 @@ pub fn texts<'a>(alloc: Global, words: &'a [Vec<u8>]) -> Result<Vec<&'a str>, Un
 }
 
 // Does what is asked for, and returns what its line is answered with.
-//
-// # Requires
-//
-// `asked` is what the words of some line ask for.
 fn report_of<S: Alter, H: Host>(
     alloc: Global,
     name: &str,
@@ -153,7 +148,6 @@ fn report_of<S: Alter, H: Host>(
     depot: &mut Depot<S>,
     host: &mut H,
 ) -> Report
-    requires { (words : List Text) × Asks words asked }
     ensures come { HasComeOf (Did S.Store depot.old depot.new) name.now asked.entry result
         (H.state host.old) (H.state host.new) }
     ensures survives { Survives (state S.Store depot.old) (state S.Store depot.new)

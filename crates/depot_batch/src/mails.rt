@@ -7,6 +7,7 @@ ghost use Rattle.depot_batch.specs.Private.{IsPassedOver, command_of, lines_of};
 
 use crate::asked::{Asked, asked_by};
 use crate::line::{line_words, texts};
+use depot_cli::WithReply;
 use depot_jobs::{Deposit, Host, Request, read_file_of};
 use std::alloc::Global;
 
@@ -67,7 +68,7 @@ fn read_mail<H: Host>(alloc: Global, line: &[u8], host: &mut H) -> Option<Mail>
         return None;
     };
     match asked_by(&texts) {
-        Ok(Asked::Reply(Request::FromFile(Deposit::Message, user, message))) => {
+        Ok(Asked::Reply(WithReply::FromFile(Deposit::Message, user, message))) => {
             mail_for(alloc, user, message, host)
         }
         _ => None,

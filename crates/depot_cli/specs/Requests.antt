@@ -1,5 +1,6 @@
 -- What commands ask of a depot.
 use Rattle.std.specs.Prelude.{ℕ, List}
+use Rattle.std.specs.Borrow.{Bor}
 use Rattle.depot_actions.specs.DepotState.{Command}
 use Rattle.depot_actions.specs.DepotState as depot
 use Rattle.depot_jobs.specs.Requests.{Request, Task}
@@ -9,6 +10,8 @@ use Rattle.depot_jobs.specs.declared.request.Deposit.{Deposit}
 use Rattle.depot_jobs.specs.declared.request.Deposit.TheVariants.{Script, Code, Message}
 use Rattle.depot_jobs.specs.declared.request.OnDepot.{OnDepot}
 use Rattle.depot_jobs.specs.declared.request.OnDepot.TheVariants.{FromFile, OnUser, Export, Migrate}
+use Rattle.depot_cli.specs.declared.task.WithReply.{WithReply}
+use Rattle.depot_cli.specs.declared.task.WithReply.TheVariants as replied
 
 -- what the depot is asked to do for a user with a file of these octets
 abbrev pub deposit_command : Deposit → List ℕ → List ℕ → Command
@@ -36,3 +39,13 @@ request_command request octets = asked (λ name. octets) request
 -- where it has its octets
 abbrev pub command_of : Task → Command
 command_of task = asked (λ octets. octets.items) task
+
+-- a command that has a reply, as a command on a depot
+abbrev pub on_depot : {F : Type 0} → WithReply F → OnDepot F
+on_depot (replied.FromFile deposit user file) = FromFile deposit user file
+on_depot (replied.OnUser access user) = OnUser access user
+on_depot replied.Migrate = Migrate
+
+-- where it has the octets of its file
+abbrev pub command_with_reply : WithReply (Bor (List ℕ)) → Command
+command_with_reply command = asked (λ octets. octets.now) (on_depot command)

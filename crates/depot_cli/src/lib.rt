@@ -97,4 +97,4 @@ pub use no_depot::{NoDepot, tell_no_depot};
 pub use pending_task::PendingTask;
 pub use running::{Next, run};
 pub use saving::{Saving, save};
-pub use task::{Reply, perform, reply_to};
+pub use task::{Reply, WithReply, perform, reply_to};

@@ -6,12 +6,11 @@ ghost use Rattle.std.specs.Prelude.{◌≡◌, IfErr, IfOk, OnErr, OnOk};
 ghost use Rattle.sqlite.specs.Held.{state};
 ghost use Rattle.sqlite.specs.State.{Survives};
 ghost use Rattle.depot_actions.specs.Applying.{MayAdd};
-ghost use Rattle.depot_actions.specs.Causes.{IsExport};
 ghost use Rattle.devices.specs.Pages.{Wrote};
 ghost use Rattle.refusals.specs.declared.refusal.Refusal.TheVariants.{Write};
 ghost use Rattle.depot_jobs.specs.Jobs.{HasTold};
 ghost use Rattle.depot_cli.specs.Printed.{migrated_text, removed_text, text_in};
-ghost use Rattle.depot_cli.specs.Requests.{command_of};
+ghost use Rattle.depot_cli.specs.Requests.{command_of, command_with_reply};
 ghost use Rattle.depot_cli.specs.Tasks.{HasAnswered, HasPerformed, HasRefused, store_and_outputs};
 
 use crate::entries::{Detail, print_entries};
@@ -24,8 +23,19 @@ use refusals::Refusal;
 use sqlite::Alter;
 use std::alloc::Global;
 
-/// What a depot replies to a task that it has done. [`reply_to`] makes it. An export has
-/// no such reply: its reply is the text that it writes.
+/// A command to which a depot has a [`Reply`]: any but an export, whose reply is the text that it writes. The type `F`
+/// stands for the command's file, as in [`OnDepot`](depot_jobs::OnDepot).
+#[derive(Clone, Copy)]
+pub enum WithReply<'a, F> {
+    /// Store a filter, or file a message, for the user with this name.
+    FromFile(Deposit, &'a str, F),
+    /// List or remove entries of the user with this name.
+    OnUser(Access, &'a str),
+    /// Give all users' filters the latest version of the bytecode.
+    Migrate,
+}
+
+/// What a depot replies to a command that it has done. [`reply_to`] makes it.
 #[derive(Drop)]
 pub enum Reply {
     /// A filter was stored.
@@ -72,40 +82,59 @@ pub fn perform<S: Alter, O: Sink, E: Sink>(
             Ok(()) => SUCCESS,
             Err(refusal) => tell(err, &refusal),
         },
-        _ => match reply_to(alloc, task, depot) {
-            Ok(reply) => finish(err, put_printed(out, &reply)),
-            Err(refusal) => tell(err, &refusal),
-        },
+        Task::FromFile(deposit, user, file) => {
+            let asked = WithReply::FromFile(*deposit, user, file.as_slice());
+            answer(alloc, asked, depot, out, err)
+        }
+        Task::OnUser(access, user) => {
+            answer(alloc, WithReply::OnUser(*access, user), depot, out, err)
+        }
+        Task::Migrate => answer(alloc, WithReply::Migrate, depot, out, err),
     }
 }
 
-/// Has the depot do a task other than an export, and returns its reply. The caller prints it.
+// Has the depot do a command, and writes its reply or the line of its refusal.
+fn answer<S: Alter, O: Sink, E: Sink>(
+    alloc: Global,
+    asked: WithReply<'_, &[u8]>,
+    depot: &mut Depot<S>,
+    out: &mut O,
+    err: &mut E,
+) -> u8
+    ensures performed { HasPerformed (command_with_reply asked.entry) result
+        (store_and_outputs (state S.Store depot.old) (O.output out.old) (E.output err.old))
+        (store_and_outputs (state S.Store depot.new) (O.output out.new) (E.output err.new)) }
+    ensures survives { Survives (state S.Store depot.old) (state S.Store depot.new)
+        (MayAdd (command_with_reply asked.entry) (state S.Store depot.old)) }
+{
+    match reply_to(alloc, asked, depot) {
+        Ok(reply) => finish(err, put_printed(out, &reply)),
+        Err(refusal) => tell(err, &refusal),
+    }
+}
+
+/// Has the depot do a command, with the bytes of its file, and returns the reply. The caller prints it.
 ///
 /// A crash at any moment leaves what it could have left before, or what the command makes of it, and never a part of
 /// that.
-///
-/// # Requires
-///
-/// The task isn't an export.
 ///
 /// # Errors
 ///
 /// The refusal of the depot's command, as [`Depot`]'s call lists it; the depot is as it was.
 pub fn reply_to<S: Alter>(
     alloc: Global,
-    task: &Task<'_>,
+    asked: WithReply<'_, &[u8]>,
     depot: &mut Depot<S>,
 ) -> Result<Reply, Refusal>
-    requires tells { IsExport (command_of task.now) → ⊥ }
-    ensures done { IfOk result (λ reply. HasAnswered (command_of task.now) (text_in reply)
+    ensures done { IfOk result (λ reply. HasAnswered (command_with_reply asked.entry) (text_in reply)
         (state S.Store depot.old) (state S.Store depot.new)) }
-    ensures refused { IfErr result (λ e. HasRefused (command_of task.now) e
+    ensures refused { IfErr result (λ e. HasRefused (command_with_reply asked.entry) e
         (state S.Store depot.old) (state S.Store depot.new)) }
     ensures survives { Survives (state S.Store depot.old) (state S.Store depot.new)
-        (MayAdd (command_of task.now) (state S.Store depot.old)) }
+        (MayAdd (command_with_reply asked.entry) (state S.Store depot.old)) }
 {
-    match task {
-        Task::FromFile(deposit, user, file) => match deposit {
+    match asked {
+        WithReply::FromFile(deposit, user, file) => match deposit {
             Deposit::Script => match depot.set_script(alloc, user, file) {
                 Ok(()) => Ok(Reply::Stored),
                 Err(refusal) => Err(refusal),
@@ -119,25 +148,24 @@ pub fn reply_to<S: Alter>(
                 Err(refusal) => Err(refusal),
             },
         },
-        Task::OnUser(access, user) => match access {
+        WithReply::OnUser(access, user) => match access {
             Access::List => match depot.list(user) {
                 Ok(rows) => Ok(Reply::Listed(rows)),
                 Err(refusal) => Err(refusal),
             },
-            Access::Since { number } => match depot.list_since(user, *number) {
+            Access::Since { number } => match depot.list_since(user, number) {
                 Ok(rows) => Ok(Reply::Listed(rows)),
                 Err(refusal) => Err(refusal),
             },
-            Access::Remove { number } => match depot.remove(user, *number) {
-                Ok(()) => Ok(Reply::Removed(*number)),
+            Access::Remove { number } => match depot.remove(user, number) {
+                Ok(()) => Ok(Reply::Removed(number)),
                 Err(refusal) => Err(refusal),
             },
         },
-        Task::Migrate => match depot.migrate(alloc) {
+        WithReply::Migrate => match depot.migrate(alloc) {
             Ok(count) => Ok(Reply::Migrated(count)),
             Err(refusal) => Err(refusal),
         },
-        Task::Export { .. } => unreachable!(),
     }
 }
 

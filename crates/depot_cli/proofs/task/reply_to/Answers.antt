@@ -1,10 +1,10 @@
-use Rattle.std.proofs.Common.{map, refl, sym}
+use Rattle.std.proofs.Common.{map, refl}
 use Rattle.part_store.specs.Standing.{listed}
 use Rattle.depot_actions.specs.DepotState.{Listed, Migrated}
 use Rattle.depot_cli.proofs.task.reply_to.Goals as goal
 
 pub returns-in-Ok-deliver-clause-done : goal.returns-in-Ok-deliver-clause-done
-returns-in-Ok-deliver-clause-done g c = rw (c.in-FromFile.is, c.in-Message.is, sym c.deref-in-Message.ensures.value) (Listed (map listed c.in-Ok-deliver.rows.items), c.in-Ok-deliver.ensures.done, refl)
+returns-in-Ok-deliver-clause-done g c = rw (c.in-FromFile.is, c.in-Message.is) (Listed (map listed c.in-Ok-deliver.rows.items), c.in-Ok-deliver.ensures.done, refl)
 
 pub returns-in-Ok-list-clause-done : goal.returns-in-Ok-list-clause-done
 returns-in-Ok-list-clause-done g c = rw (c.in-OnUser.is, c.in-List.is) (Listed (map listed c.in-Ok-list.rows.items), c.in-Ok-list.ensures.done, refl)
@@ -21,22 +21,22 @@ returns-in-Err-migrate-clause-refused g c =
     rw c.in-Migrate.is (all.which, λ clean. (all.refused clean, all.cause clean, all.unchanged clean))
 
 pub returns-in-Ok-clause-survives : goal.returns-in-Ok-clause-survives
-returns-in-Ok-clause-survives g c = rw (c.in-FromFile.is, c.in-Script.is, sym c.deref.ensures.value) c.in-Ok.ensures.survives
+returns-in-Ok-clause-survives g c = rw (c.in-FromFile.is, c.in-Script.is) c.in-Ok.ensures.survives
 
 pub returns-in-Err-clause-survives : goal.returns-in-Err-clause-survives
-returns-in-Err-clause-survives g c = rw (c.in-FromFile.is, c.in-Script.is, sym c.deref.ensures.value) c.in-Err.ensures.survives
+returns-in-Err-clause-survives g c = rw (c.in-FromFile.is, c.in-Script.is) c.in-Err.ensures.survives
 
 pub returns-in-Ok-set_code-clause-survives : goal.returns-in-Ok-set_code-clause-survives
-returns-in-Ok-set_code-clause-survives g c = rw (c.in-FromFile.is, c.in-Code.is, sym c.deref-in-Code.ensures.value) c.in-Ok-set_code.ensures.survives
+returns-in-Ok-set_code-clause-survives g c = rw (c.in-FromFile.is, c.in-Code.is) c.in-Ok-set_code.ensures.survives
 
 pub returns-in-Err-set_code-clause-survives : goal.returns-in-Err-set_code-clause-survives
-returns-in-Err-set_code-clause-survives g c = rw (c.in-FromFile.is, c.in-Code.is, sym c.deref-in-Code.ensures.value) c.in-Err-set_code.ensures.survives
+returns-in-Err-set_code-clause-survives g c = rw (c.in-FromFile.is, c.in-Code.is) c.in-Err-set_code.ensures.survives
 
 pub returns-in-Ok-deliver-clause-survives : goal.returns-in-Ok-deliver-clause-survives
-returns-in-Ok-deliver-clause-survives g c = rw (c.in-FromFile.is, c.in-Message.is, sym c.deref-in-Message.ensures.value) c.in-Ok-deliver.ensures.survives
+returns-in-Ok-deliver-clause-survives g c = rw (c.in-FromFile.is, c.in-Message.is) c.in-Ok-deliver.ensures.survives
 
 pub returns-in-Err-deliver-clause-survives : goal.returns-in-Err-deliver-clause-survives
-returns-in-Err-deliver-clause-survives g c = rw (c.in-FromFile.is, c.in-Message.is, sym c.deref-in-Message.ensures.value) c.in-Err-deliver.ensures.survives
+returns-in-Err-deliver-clause-survives g c = rw (c.in-FromFile.is, c.in-Message.is) c.in-Err-deliver.ensures.survives
 
 pub returns-in-Ok-remove-clause-survives : goal.returns-in-Ok-remove-clause-survives
 returns-in-Ok-remove-clause-survives g c = rw (c.in-OnUser.is, c.in-Remove.is) c.in-Ok-remove.ensures.survives
