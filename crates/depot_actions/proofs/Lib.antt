@@ -5,6 +5,7 @@ pub mod KeptPlaces
 pub mod Sharing
 pub mod Delivering
 pub mod Together
+pub mod Transacted
 pub mod Folding
 pub mod NoCause
 pub mod Migrating

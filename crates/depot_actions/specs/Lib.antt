@@ -15,6 +15,7 @@ pub mod Overviews
 pub mod Renewing
 -- private: how the code goes; no public contract names these
 pub mod Filing
+pub mod Delivering
 pub mod KeptPrograms
 pub mod Sources
 pub mod Private

@@ -1,5 +1,5 @@
 -- Private: where the contents of actions come from.
-use Rattle.std.specs.Prelude.{◌≡◌, ℕ, ◌<◌, List, Option, None, IfSome, length, slice_index_or}
+use Rattle.std.specs.Prelude.{◌≡◌, ℕ, ◌<◌, ◌≤◌, List, Option, None, Some, IfSome, length, slice_index_or}
 use Rattle.bytecode_format.specs.declared.action.Action.{Action}
 use Rattle.bytecode_format.specs.declared.action.Action.TheVariants.{Keep, File, Store}
 
@@ -18,3 +18,15 @@ AreFirsts sources place firsts =
 abbrev pub HaveFirsts : List ℕ → List ℕ → Type 0
 HaveFirsts sources firsts =
     (place : ℕ) → place < length firsts → slice_index_or sources (slice_index_or firsts place 0) 0 ≡ slice_index_or sources place 0
+
+-- the source of each place before this one is known, at that place or one before it
+abbrev pub AreEarliest : List ℕ → ℕ → List (Option ℕ) → Type 0
+AreEarliest sources place firsts =
+    (earlier : ℕ) → earlier < place
+    → (first : ℕ) × (slice_index_or firsts (slice_index_or sources earlier 0) None ≡ Some first) × (first ≤ earlier)
+
+-- each place names none after the first one that has its source
+abbrev pub NameEarliest : List ℕ → List ℕ → Type 0
+NameEarliest sources firsts =
+    (earlier place : ℕ) → earlier < place → place < length firsts → slice_index_or sources earlier 0 ≡ slice_index_or sources place 0
+    → slice_index_or firsts place 0 ≤ earlier

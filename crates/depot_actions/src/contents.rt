@@ -4,11 +4,11 @@
 // looked up and compared once, and a filter with a thousand `fileinto` isn't a thousand times as expensive as a filter
 // with one. Which content an entry has is known from the action, by the number of its part: this language can't compare
 // two slices by their addresses, and comparing 64 MiB takes milliseconds each time.
-ghost use Rattle.std.specs.Prelude.{◌≡◌, ◌+◌, ◌<◌, All, IfOk, List, ℕ, length, map, slice_index_or};
+ghost use Rattle.std.specs.Prelude.{◌≡◌, ◌≢◌, ◌+◌, ◌<◌, All, IfOk, IfSome, List, ℕ, None, Some, length, map, slice_index_or};
 ghost use Rattle.sieve_vm.specs.Stores.{NamesPart};
 ghost use Rattle.part_store.specs.Sharing.{SharesContents, first_of};
 ghost use Rattle.depot_actions.specs.Drafts.{drafts_of};
-ghost use Rattle.depot_actions.specs.Sources.{AreFirsts, source_of};
+ghost use Rattle.depot_actions.specs.Sources.{AreFirsts, NameEarliest, source_of};
 
 use bytecode_format::Action;
 use mime_decode::Message;
@@ -30,7 +30,10 @@ pub(crate) fn shared_contents(
     actions: &[Action],
 ) -> Result<Vec<Shared>, AllocError>
     requires { All (NamesPart message.now) actions.now }
-    ensures { IfOk result (λ shared. SharesContents (drafts_of message.now actions.now)
+    ensures shares { IfOk result (λ shared. SharesContents (drafts_of message.now actions.now)
+        (map first_of shared.items)) }
+    ensures earliest { IfOk result (λ shared.
+        NameEarliest (map (source_of (length message.now.parts)) actions.now)
         (map first_of shared.items)) }
 {
     let parts = message.parts();
@@ -58,6 +61,11 @@ fn source_of(parts: usize, action: &Action) -> usize
 fn first_place(firsts: &mut Vec<Option<usize>>, source: usize, place: usize) -> usize
     requires { source < length firsts.old.items }
     ensures long { length firsts.new.items ≡ length firsts.old.items }
+    ensures known { IfSome (slice_index_or firsts.old.items source None) (λ first. result ≡ first) }
+    ensures fresh { slice_index_or firsts.old.items source None ≡ None → result ≡ place }
+    ensures noted { slice_index_or firsts.new.items source None ≡ Some result }
+    ensures others { (other : ℕ) → other ≢ source
+        → slice_index_or firsts.new.items other None ≡ slice_index_or firsts.old.items other None }
     ensures first { (sources : List ℕ) → AreFirsts sources place firsts.old.items
         → slice_index_or sources place 0 ≡ source → slice_index_or sources result 0 ≡ source }
     ensures firsts { (sources : List ℕ) → AreFirsts sources place firsts.old.items

@@ -7,6 +7,7 @@ ghost use Rattle.part_store.specs.Standing.{listed};
 ghost use Rattle.depot_actions.specs.Applying.{Applies, AppliesAll};
 ghost use Rattle.depot_actions.specs.Causes.{IsCause, IsFault, IsSound, MayRefuse};
 ghost use Rattle.depot_actions.specs.Deliveries.{IsRefusedAt, MayRefuseAt, command_of, reply_of};
+ghost use Rattle.depot_actions.specs.Delivering.{Delivers, DeliversEach};
 ghost use Rattle.depot_actions.specs.DepotState.{Deliver, IsNamed, Listed};
 ghost use Rattle.depot_actions.specs.Filing.{IfInside, Reaches, ReachesAll};
 
@@ -15,9 +16,9 @@ use crate::delivery::{actions_of, file_all};
 use crate::refusing::refused;
 use crate::user::is_user_name;
 use mime_decode::Message;
-use part_store::{EntryRow, PartStore, StoreError, begin, program_within};
+use part_store::{EntryRow, PartStore, Undone, Within, Work};
 use refusals::Refusal;
-use sqlite::{Alter, Transaction};
+use sqlite::Alter;
 use std::alloc::Global;
 
 /// A message to be delivered to a user. Callers of [`crate::Depot::deliver_all`] make one for each mail of a batch.
@@ -40,6 +41,58 @@ pub struct RefusedDelivery {
     pub refusal: Refusal,
 }
 
+// The delivery of a message, as work in a transaction of its own.
+#[derive(Drop)]
+struct Alone<'a> {
+    kept: &'a mut Option<CheckedPrograms>,
+    alloc: Global,
+    user: &'a str,
+    message: &'a [u8],
+}
+
+impl<S: Alter> Work<S> for Alone<'_> {
+    type Output = Vec<EntryRow>;
+
+    type Refusal = Refusal;
+
+    ghost does = { λ work old new result. Delivers S.Store work.user.now work.message.now old new result };
+
+    fn run(self, tx: &mut Within<'_, '_, S>) -> Result<Vec<EntryRow>, Refusal> {
+        let Alone {
+            kept,
+            alloc,
+            user,
+            message,
+        } = self;
+        deliver_within(tx, kept, alloc, user, message)
+    }
+}
+
+// Several deliveries, as work in one transaction.
+#[derive(Drop)]
+struct Together<'a, 'd> {
+    kept: &'a mut Option<CheckedPrograms>,
+    alloc: Global,
+    deliveries: &'a [Delivery<'d>],
+}
+
+impl<S: Alter> Work<S> for Together<'_, '_> {
+    type Output = Vec<Vec<EntryRow>>;
+
+    type Refusal = RefusedDelivery;
+
+    ghost does = { λ work old new result. DeliversEach S.Store work.deliveries.now old new result };
+
+    fn run(self, tx: &mut Within<'_, '_, S>) -> Result<Vec<Vec<EntryRow>>, RefusedDelivery> {
+        let Together {
+            kept,
+            alloc,
+            deliveries,
+        } = self;
+        deliver_each(tx, kept, alloc, deliveries)
+    }
+}
+
 /// Delivers a message in a transaction of its own.
 ///
 /// # Errors
@@ -54,11 +107,16 @@ pub(crate) fn deliver_alone<S: Alter>(
 ) -> Result<Vec<EntryRow>, Refusal>
     ensures { Applies S.Store store.old store.new result (Deliver user.now message.now) reply_of }
 {
-    let mut tx = begin(&mut store.conn);
-    let rows = deliver_within(&mut tx, kept, alloc, user, message)?;
-    match tx.commit() {
-        Ok(()) => Ok(rows),
-        Err(error) => Err(refused(StoreError::from(error))),
+    let work = Alone {
+        kept,
+        alloc,
+        user,
+        message,
+    };
+    match store.transact(work) {
+        Ok(rows) => Ok(rows),
+        Err(Undone::Refused(refusal)) => Err(refusal),
+        Err(Undone::Uncommitted(error)) => Err(refused(error)),
     }
 }
 
@@ -76,38 +134,43 @@ pub(crate) fn deliver_together<S: Alter>(
     ensures { AppliesAll S.Store store.old store.new result (map command_of deliveries.now)
         (λ replies. map reply_of replies.items) }
 {
-    let mut tx = begin(&mut store.conn);
-    let replies = deliver_each(&mut tx, kept, alloc, deliveries)?;
-    match tx.commit() {
-        Ok(()) => Ok(replies),
-        Err(error) => Err(RefusedDelivery {
+    let work = Together {
+        kept,
+        alloc,
+        deliveries: &*deliveries,
+    };
+    match store.transact(work) {
+        Ok(replies) => Ok(replies),
+        Err(Undone::Refused(first)) => Err(first),
+        Err(Undone::Uncommitted(error)) => Err(RefusedDelivery {
             place: deliveries.len(),
-            refusal: refused(StoreError::from(error)),
+            refusal: refused(error),
         }),
     }
 }
 
 // Delivers messages within a transaction, in their order, up to the first that is refused.
 fn deliver_each<S: Alter>(
-    tx: &mut Transaction<'_, S>,
+    tx: &mut Within<'_, '_, S>,
     kept: &mut Option<CheckedPrograms>,
     alloc: Global,
     deliveries: &[Delivery<'_>],
 ) -> Result<Vec<Vec<EntryRow>>, RefusedDelivery>
-    ensures same_reference { tx.new.conn.ghost_name ≡ tx.old.conn.ghost_name }
-    ensures done { IfDone S.Store tx.old.conn.now tx.new.conn.now result
+    ensures same_transaction { tx.new.tx.ghost_name ≡ tx.old.tx.ghost_name }
+    ensures same_reference { tx.new.tx.now.conn.ghost_name ≡ tx.old.tx.now.conn.ghost_name }
+    ensures done { IfDone S.Store tx.old.tx.now.conn.now tx.new.tx.now.conn.now result
         (λ replies. ReachesAll (map command_of deliveries.now) (map reply_of replies.items)) }
-    ensures open { OnDone S.Store tx.old.conn.now tx.new.conn.now result
+    ensures open { OnDone S.Store tx.old.tx.now.conn.now tx.new.tx.now.conn.now result
         (λ old _. 0 < length deliveries.now → IsTrue old.is_open) }
-    ensures inside { OnDone S.Store tx.old.conn.now tx.new.conn.now result StaysInside }
-    ensures stays_closed { Always S.Store tx.old.conn.now tx.new.conn.now StaysClosed }
-    ensures kept { Always S.Store tx.old.conn.now tx.new.conn.now KeepsStored }
+    ensures inside { OnDone S.Store tx.old.tx.now.conn.now tx.new.tx.now.conn.now result StaysInside }
+    ensures stays_closed { Always S.Store tx.old.tx.now.conn.now tx.new.tx.now.conn.now StaysClosed }
+    ensures kept { Always S.Store tx.old.tx.now.conn.now tx.new.tx.now.conn.now KeepsStored }
     ensures which { IfErr result
         (λ e. MayRefuseAt (map command_of deliveries.now) e.place e.refusal) }
-    ensures refused { IfRefused S.Store tx.old.conn.now tx.new.conn.now result
+    ensures refused { IfRefused S.Store tx.old.tx.now.conn.now tx.new.tx.now.conn.now result
         (λ old new e. IsTrue old.in_transaction
         → IsRefusedAt (map command_of deliveries.now) e.place e.refusal old new) }
-    ensures survives { CommitsNothing S.Store tx.old.conn.now tx.new.conn.now }
+    ensures survives { CommitsNothing S.Store tx.old.tx.now.conn.now tx.new.tx.now.conn.now }
 {
     let mut replies = Vec::new(alloc);
     for delivery in deliveries {
@@ -133,31 +196,32 @@ fn deliver_each<S: Alter>(
 ///
 /// Those of [`crate::Depot::deliver`].
 fn deliver_within<S: Alter>(
-    tx: &mut Transaction<'_, S>,
+    tx: &mut Within<'_, '_, S>,
     kept: &mut Option<CheckedPrograms>,
     alloc: Global,
     user: &str,
     message: &[u8],
 ) -> Result<Vec<EntryRow>, Refusal>
-    ensures same_reference { tx.new.conn.ghost_name ≡ tx.old.conn.ghost_name }
-    ensures done { IfDone S.Store tx.old.conn.now tx.new.conn.now result
+    ensures same_transaction { tx.new.tx.ghost_name ≡ tx.old.tx.ghost_name }
+    ensures same_reference { tx.new.tx.now.conn.ghost_name ≡ tx.old.tx.now.conn.ghost_name }
+    ensures done { IfDone S.Store tx.old.tx.now.conn.now tx.new.tx.now.conn.now result
         (λ rows. Reaches (Deliver user.now message.now) (Listed (map listed rows.items))) }
-    ensures inside { OnDone S.Store tx.old.conn.now tx.new.conn.now result StaysInside }
-    ensures schema { OnDone S.Store tx.old.conn.now tx.new.conn.now result KeepsTables }
+    ensures inside { OnDone S.Store tx.old.tx.now.conn.now tx.new.tx.now.conn.now result StaysInside }
+    ensures schema { OnDone S.Store tx.old.tx.now.conn.now tx.new.tx.now.conn.now result KeepsTables }
     ensures sound { OnOk result (IsNamed (Deliver user.now message.now)
         × IsSound (Deliver user.now message.now)) }
     ensures which { IfErr result (MayRefuse (Deliver user.now message.now)) }
-    ensures refused { IfRefused S.Store tx.old.conn.now tx.new.conn.now result
+    ensures refused { IfRefused S.Store tx.old.tx.now.conn.now tx.new.tx.now.conn.now result
         (IsCause (Deliver user.now message.now)) }
-    ensures cause { IfRefused S.Store tx.old.conn.now tx.new.conn.now result
+    ensures cause { IfRefused S.Store tx.old.tx.now.conn.now tx.new.tx.now.conn.now result
         (IfInside (IsFault (Deliver user.now message.now))) }
-    ensures within { InTransaction S.Store tx.old.conn.now tx.new.conn.now result }
+    ensures within { InTransaction S.Store tx.old.tx.now.conn.now tx.new.tx.now.conn.now result }
 {
     if !is_user_name(user) {
         return Err(Refusal::UserName);
     }
     let mail = Message::read(alloc, message)?;
-    let program = program_within(tx, user).map_err(refused)?;
+    let program = tx.program_of(user).map_err(refused)?;
     let actions = actions_of(alloc, program, kept, &mail)?;
     if actions.is_empty() {
         return Ok(Vec::new(alloc));

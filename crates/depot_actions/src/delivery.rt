@@ -33,9 +33,9 @@ use crate::refusing::refused;
 use crate::rows::{set_numbers, unnumbered_rows};
 use bytecode_format::Action;
 use mime_decode::Message;
-use part_store::{EntryRow, NewEntry, Shared, add_within};
+use part_store::{EntryRow, NewEntry, Shared, Within};
 use refusals::Refusal;
-use sqlite::{Alter, Transaction};
+use sqlite::Alter;
 use std::alloc::{AllocError, Global};
 
 /// The final actions of a user's program on a message, or only Keep if the user has no program. If the program is one of
@@ -95,7 +95,7 @@ fn keep_alone(alloc: Global) -> Result<Vec<Action>, AllocError>
 /// - `NumberFull`, `Collision` and `Database` as for [`crate::Depot::deliver`].
 /// - `Memory` if memory is refused.
 pub(crate) fn file_all<S: Alter>(
-    tx: &mut Transaction<'_, S>,
+    tx: &mut Within<'_, '_, S>,
     alloc: Global,
     user: &str,
     octets: &[u8],
@@ -105,18 +105,19 @@ pub(crate) fn file_all<S: Alter>(
     requires some { 0 < length actions.now }
     requires parts { All (NamesPart message) actions.now }
     requires octets { message.octets ≡ octets.now }
-    ensures same_reference { tx.new.conn.ghost_name ≡ tx.old.conn.ghost_name }
-    ensures added { IfDone S.Store tx.old.conn.now tx.new.conn.now result
+    ensures same_transaction { tx.new.tx.ghost_name ≡ tx.old.tx.ghost_name }
+    ensures same_reference { tx.new.tx.now.conn.ghost_name ≡ tx.old.tx.now.conn.ghost_name }
+    ensures added { IfDone S.Store tx.old.tx.now.conn.now tx.new.tx.now.conn.now result
         (λ rows old new. (before : Entries) → Stands old.now before
         → Adds user.now (drafts_of message.entry actions.now) (map listed rows.items) new before) }
-    ensures inside { OnDone S.Store tx.old.conn.now tx.new.conn.now result IsInside }
-    ensures schema { OnDone S.Store tx.old.conn.now tx.new.conn.now result KeepsTables }
+    ensures inside { OnDone S.Store tx.old.tx.now.conn.now tx.new.tx.now.conn.now result IsInside }
+    ensures schema { OnDone S.Store tx.old.tx.now.conn.now tx.new.tx.now.conn.now result KeepsTables }
     ensures which { IfErr result MayUnfile }
-    ensures refused { IfRefused S.Store tx.old.conn.now tx.new.conn.now result
+    ensures refused { IfRefused S.Store tx.old.tx.now.conn.now tx.new.tx.now.conn.now result
         (λ old _ e. IsUnfiled e user.now (drafts_of message.entry actions.now) old) }
-    ensures cause { IfRefused S.Store tx.old.conn.now tx.new.conn.now result
+    ensures cause { IfRefused S.Store tx.old.tx.now.conn.now tx.new.tx.now.conn.now result
         (IfInside (IsStoreFault (LackRoom user.now (drafts_of message.entry actions.now)))) }
-    ensures within { InTransaction S.Store tx.old.conn.now tx.new.conn.now result }
+    ensures within { InTransaction S.Store tx.old.tx.now.conn.now tx.new.tx.now.conn.now result }
 {
     let kept = kept_parts(alloc, &message, actions)?;
     let mut shared = shared_contents(alloc, &message, actions)?;
@@ -128,7 +129,7 @@ pub(crate) fn file_all<S: Alter>(
 // Adds entries, at least one; some can have the same content. Their rows are made first, so that nothing is added if
 // memory is refused.
 fn add_all<S: Alter>(
-    tx: &mut Transaction<'_, S>,
+    tx: &mut Within<'_, '_, S>,
     alloc: Global,
     user: &str,
     entries: &[NewEntry<'_>],
@@ -136,21 +137,24 @@ fn add_all<S: Alter>(
 ) -> Result<Vec<EntryRow>, Refusal>
     requires some { 0 < length entries.now }
     requires shared { SharesContents (map draft_of entries.now) (map first_of shared.old) }
-    ensures same_reference { tx.new.conn.ghost_name ≡ tx.old.conn.ghost_name }
-    ensures added { IfDone S.Store tx.old.conn.now tx.new.conn.now result
+    ensures same_transaction { tx.new.tx.ghost_name ≡ tx.old.tx.ghost_name }
+    ensures same_reference { tx.new.tx.now.conn.ghost_name ≡ tx.old.tx.now.conn.ghost_name }
+    ensures added { IfDone S.Store tx.old.tx.now.conn.now tx.new.tx.now.conn.now result
         (λ rows old new. (before : Entries) → Stands old.now before
         → Adds user.now (map draft_of entries.now) (map listed rows.items) new before) }
-    ensures inside { OnDone S.Store tx.old.conn.now tx.new.conn.now result IsInside }
-    ensures schema { OnDone S.Store tx.old.conn.now tx.new.conn.now result KeepsTables }
+    ensures inside { OnDone S.Store tx.old.tx.now.conn.now tx.new.tx.now.conn.now result IsInside }
+    ensures schema { OnDone S.Store tx.old.tx.now.conn.now tx.new.tx.now.conn.now result KeepsTables }
     ensures which { IfErr result MayUnfile }
-    ensures refused { IfRefused S.Store tx.old.conn.now tx.new.conn.now result
+    ensures refused { IfRefused S.Store tx.old.tx.now.conn.now tx.new.tx.now.conn.now result
         (λ old _ e. IsUnfiled e user.now (map draft_of entries.now) old) }
-    ensures cause { IfRefused S.Store tx.old.conn.now tx.new.conn.now result
+    ensures cause { IfRefused S.Store tx.old.tx.now.conn.now tx.new.tx.now.conn.now result
         (IfInside (IsStoreFault (LackRoom user.now (map draft_of entries.now)))) }
-    ensures within { InTransaction S.Store tx.old.conn.now tx.new.conn.now result }
+    ensures within { InTransaction S.Store tx.old.tx.now.conn.now tx.new.tx.now.conn.now result }
 {
     let mut rows = unnumbered_rows(alloc, entries)?;
-    let first = add_within(tx, user, entries, shared).map_err(refused)?;
+    let first = tx
+        .add_sharing_entries(user, entries, shared)
+        .map_err(refused)?;
     set_numbers(&mut rows, first);
     Ok(rows)
 }

@@ -1,5 +1,5 @@
 // The parts that actions store. Each is read once.
-ghost use Rattle.std.specs.Prelude.{◌≡◌, ◌<◌, ℕ, All, IfOk, OnOk, None, length, replicate};
+ghost use Rattle.std.specs.Prelude.{◌≡◌, ◌<◌, ℕ, All, IfOk, IsOk, OnOk, None, length, replicate};
 ghost use Rattle.sieve_vm.specs.Stores.{NamesPart};
 ghost use Rattle.depot_actions.specs.Filing.{AreKept, Keeps, KeepsAction};
 
@@ -56,6 +56,7 @@ fn keep_stored<'m>(
     requires kept { AreKept message.now kept.old.items }
     ensures parts { OnOk result (AreKept message.now kept.new.items) }
     ensures there { OnOk result (KeepsAction kept.new.items action.now) }
+    ensures known { KeepsAction kept.old.items action.now → IsOk result }
     ensures more { OnOk result ((number : ℕ) → Keeps kept.old.items number
         → Keeps kept.new.items number) }
 {
@@ -76,6 +77,7 @@ fn keep_part<'m>(
     requires kept { AreKept message.now kept.old.items }
     ensures parts { OnOk result (AreKept message.now kept.new.items) }
     ensures there { OnOk result (Keeps kept.new.items part) }
+    ensures known { Keeps kept.old.items part → IsOk result }
     ensures more { OnOk result ((number : ℕ) → Keeps kept.old.items number
         → Keeps kept.new.items number) }
 {

@@ -8,6 +8,7 @@ pub mod Verifying
 pub mod Calls
 pub mod Inside
 pub mod Access
+pub mod Transacting
 pub mod Looking
 pub mod Opening
 pub mod Unmade

@@ -2,7 +2,7 @@
 //!
 //! `specs/Entries` defines what the store holds, without digests, and `specs/Standing` how the tables represent it.
 //! Each call of [`PartStore`] is one transaction: its step on the state that the tables represent, or a refusal that
-//! leaves the state as it was. [`begin`] and [`add_within`] add entries of several users in one transaction. A step
+//! leaves the state as it was. [`PartStore::transact`] does work of several calls in one transaction. A step
 //! that is done is committed, and the store is open. Only a failure of the disk shuts a store, which then does nothing
 //! more; its files then hold what the calls promise for a crash. Octets are kept once under their SHA-256, as long as
 //! an entry names them.
@@ -37,7 +37,9 @@
 //! ### Open stores and transactions
 //!
 //! A call that succeeds found the store open; a writer leaves it open, with its step committed. No call leaves a
-//! transaction open. Within an open one, `program_within` and `add_within` give and do the same and commit nothing.
+//! transaction open. `transact` does a `Work` in a transaction of its own: what the work leaves is committed if it is done,
+//! and rolled back if it is refused. `Within` has the calls of a work: `program_of` and `add_sharing_entries` give and do
+//! there what the store's calls of these names do, and commit nothing. The connection is private.
 //!
 //! ### What the store refuses
 //!
@@ -83,8 +85,8 @@
 //!
 //! By `PartStore`: `set_program`, `replace_programs`, `put_users`, `add_entries`, `add_sharing_entries`, `remove_entry`,
 //! `program_of`, `programs`, `users`, `last_of`, `contents`, `entries_of`, `entries_since`, `bytes_of`, `scrub`, `adopt`,
-//! `in_memory`, `release`; and `begin`, `program_within`, `add_within`; laws `open_stores_list_their_tables`,
-//! `calls_leave_what_was_or_is`, `contents_keep_their_digests`, `scrubs_report_all_damage`, `users_carry_over`.
+//! `in_memory`, `release`, `transact`; by `Within`: `program_of`, `add_sharing_entries`; laws
+//! `open_stores_list_their_tables`, `calls_leave_what_was_or_is`, `contents_keep_their_digests`, `scrubs_report_all_damage`, `users_carry_over`.
 //!
 //! ## Connections that are taken as they are
 //!
@@ -161,4 +163,4 @@ pub use shared::Shared;
 pub use store::{Again, PartStore};
 pub use totals::ContentTotal;
 pub use user_row::UserRow;
-pub use within::{add_within, begin, program_within};
+pub use within::{Undone, Within, Work};

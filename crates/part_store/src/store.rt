@@ -24,6 +24,7 @@ ghost use Rattle.part_store.specs.declared.error.StoreError.TheVariants.{Memory,
 ghost use Rattle.part_store.specs.Crashes.{KeepsState};
 ghost use Rattle.part_store.specs.Looking.{are_tables};
 ghost use Rattle.part_store.specs.Totals.{IsTotalOf, octets_of};
+ghost use Rattle.part_store.specs.Transacting.{Transacts};
 ghost use Rattle.part_store.specs.UserLines.{AreUsersOf, line_of, with_users};
 ghost use Rattle.part_store.specs.Scrubbing.{IsScrubbed, OnlyWhenUncounted};
 ghost use Rattle.sqlite.specs.Files.{file_state, IsClosed, IsOpened};
@@ -52,7 +53,7 @@ use crate::shared::Shared;
 use crate::stored_programs::{list_programs, put_program, read_program, replace_all};
 use crate::totals::{ContentTotal, count_contents};
 use crate::user_row::UserRow;
-use crate::within::{add_within, begin};
+use crate::within::{Undone, Work, add_within, begin, run_within};
 use crate::{contents, entries, tables};
 use connections::{known_connection, store_on};
 use sqlite::{
@@ -83,9 +84,8 @@ use std::time::Duration;
 /// Which errors a call can return is promised whatever the disk does. What it returns and leaves, and the cause of an
 /// error, are promised as long as the disk returns what was written.
 pub struct PartStore<S: Alter> {
-    /// The database, in which no transaction is open. Code that borrows it has to leave none open. It is public so that
-    /// entries of several users can be committed together ([`crate::begin`]).
-    pub conn: Connection<S>,
+    // The database, in which no transaction is open.
+    conn: Connection<S>,
 }
 
 impl<S: Alter> Model for PartStore<S> {
@@ -343,6 +343,27 @@ impl<S: Alter> PartStore<S> {
     {
         let PartStore { conn } = self;
         conn
+    }
+
+    /// Does work in a transaction of its own: it is committed if the work is done, and rolled back if it is refused. So
+    /// entries of several users can be added together, all or none.
+    ///
+    /// # Errors
+    ///
+    /// - [`Undone::Refused`] with the refusal of the work.
+    /// - [`Undone::Uncommitted`] if the work is done and its commit fails, with `Memory` or `Database`.
+    pub fn transact<W: Work<S>>(&mut self, work: W) -> Result<W::Output, Undone<W::Refusal>>
+        ensures { Transacts S.Store self.old self.new result (W.does work) }
+    {
+        let mut tx = begin(&mut self.conn);
+        let output = match run_within(&mut tx, work) {
+            Ok(output) => output,
+            Err(refusal) => return Err(Undone::Refused(refusal)),
+        };
+        match tx.commit() {
+            Ok(()) => Ok(output),
+            Err(error) => Err(Undone::Uncommitted(StoreError::from(error))),
+        }
     }
 
     /// Stores the user's filter program and replaces the one before. Any bytes are accepted: whether they are a program

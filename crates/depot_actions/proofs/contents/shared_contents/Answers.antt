@@ -38,7 +38,11 @@ loop-action-preserved c =
     let items = ap (map first_of) c.in_ok-push.ensures.items ∙ map-append first_of shared (c.with.result ∷ []) ∙ ap (λ n. map first_of shared ++ n ∷ []) c.with.ensures in
     subst (AreShared mail actions (place + 1) c.first_place-first.new.firsts.items) (sym items)
     (one_shared mail actions place item c.loop-action.firsts.items c.first_place-first.new.firsts.items (map first_of shared) c.source_of.result c.first_place-first.result c.loop-action-test.true same c.loop-action.invariant
-    c.first_place-first.ensures.long first firsts)
+    c.first_place-first.ensures.long first firsts
+    (record { known = c.first_place-first.ensures.known; fresh = λ none. c.first_place-first.ensures.fresh none ∙ here; noted = c.first_place-first.ensures.noted; others = c.first_place-first.ensures.others }))
 
-pub returns : goal.returns
-returns c = shares c.args.message.now c.args.actions.now (map first_of c.loop-action.shared.items) c.requires c.loop-action.invariant.have
+pub returns-clause-shares : goal.returns-clause-shares
+returns-clause-shares c = shares c.args.message.now c.args.actions.now (map first_of c.loop-action.shared.items) c.requires c.loop-action.invariant.have
+
+pub returns-clause-earliest : goal.returns-clause-earliest
+returns-clause-earliest c = c.loop-action.invariant.names

@@ -25,7 +25,7 @@ returns-in-Err-clause-refused g c clean inside =
     let ds = c.args.deliveries.now in
     let index = c.loop-delivery.delivery-index in
     let lt = c.loop-delivery-test.true in
-    next_refused (map command_of (take index ds)) (map reply_of c.loop-delivery.replies.items) (state g.S.Store c.args.tx.now.conn.now) (state g.S.Store c.loop-delivery.tx.conn.now) (state g.S.Store c.deliver_within.new.tx.conn.now)
+    next_refused (map command_of (take index ds)) (map reply_of c.loop-delivery.replies.items) (state g.S.Store c.args.tx.now.tx.now.conn.now) (state g.S.Store c.loop-delivery.tx.tx.now.conn.now) (state g.S.Store c.deliver_within.new.tx.tx.now.conn.now)
     c.loop-delivery.invariant.so_far c.deliver_within.ensures.within.survives (map command_of ds) (map command_of (drop (index + 1) ds)) (command_of (get_or ds index nothing)) c.len-place.result c.in-Err.refusal
     (deliveries_split ds index nothing lt) (c.len-place.ensures ∙ c.loop-delivery.invariant.number ∙ sym (deliveries_number ds index lt)) clean (c.in-Err.ensures.refused clean) (c.in-Err.ensures.cause clean) inside
 
@@ -44,10 +44,10 @@ returns-in_default-clause-refused g c clean inside =
     let ds = c.args.deliveries.now in
     let index = c.loop-delivery.delivery-index in
     let lt = c.loop-delivery-test.true in
-    let mid = state g.S.Store c.loop-delivery.tx.conn.now in
-    let new = state g.S.Store c.deliver_within.new.tx.conn.now in
+    let mid = state g.S.Store c.loop-delivery.tx.tx.now.conn.now in
+    let new = state g.S.Store c.deliver_within.new.tx.tx.now.conn.now in
     let command = command_of (get_or ds index nothing) in
-    next_refused (map command_of (take index ds)) (map reply_of c.loop-delivery.replies.items) (state g.S.Store c.args.tx.now.conn.now) mid new
+    next_refused (map command_of (take index ds)) (map reply_of c.loop-delivery.replies.items) (state g.S.Store c.args.tx.now.tx.now.conn.now) mid new
     c.loop-delivery.invariant.so_far c.deliver_within.ensures.within.survives (map command_of ds) (map command_of (drop (index + 1) ds)) command c.len-place.result Memory
     (deliveries_split ds index nothing lt) (c.len-place.ensures ∙ c.loop-delivery.invariant.number ∙ sym (deliveries_number ds index lt)) clean tt (λ _. no_fault command mid new) inside
 
@@ -56,13 +56,14 @@ loop-delivery-preserved g c =
     let ds = c.args.deliveries.now in
     let index = c.loop-delivery.delivery-index in
     let lt = c.loop-delivery-test.true in
-    let old = state g.S.Store c.args.tx.now.conn.now in
-    let mid = state g.S.Store c.loop-delivery.tx.conn.now in
-    let new = state g.S.Store c.deliver_within.new.tx.conn.now in
+    let old = state g.S.Store c.args.tx.now.tx.now.conn.now in
+    let mid = state g.S.Store c.loop-delivery.tx.tx.now.conn.now in
+    let new = state g.S.Store c.deliver_within.new.tx.tx.now.conn.now in
     let before = map command_of (take index ds) in
     let replies = map reply_of c.loop-delivery.replies.items in
     let pushed = c.in-Ok-push.ensures.items in
     record {
+      same_transaction = c.deliver_within.ensures.same_transaction ∙ c.loop-delivery.invariant.same_transaction;
       same_reference = c.deliver_within.ensures.same_reference ∙ c.loop-delivery.invariant.same_reference;
       number = omega (arith, c.in-Ok-push.ensures.len, c.loop-delivery.invariant.number);
       so_far = subst (λ commands. Delivering commands (map reply_of c.push.new.self.items) old new) (deliveries_more ds index nothing lt)
