@@ -1,5 +1,5 @@
 // Lines next to texts that Python's `json` and `base64` wrote.
-use crate::{Entry, PartEntry, Place, message_line, part_line, stored_in};
+use crate::{Entry, PartEntry, PartIndex, Place, message_line, part_line};
 use mime_decode::Message;
 use sha2::{Digest, Sha256};
 use std::alloc::{AllocError, Global};
@@ -96,7 +96,8 @@ fn long_names(rt: HostRuntime) -> Result<(), Fail> {
 // The line of a message in a folder, if there is memory. The entries are those of parts.
 fn line_of(alloc: Global, octets: &[u8], folder: &[u8], entries: &[PartEntry]) -> Option<Vec<u8>> {
     let message = Message::read(alloc, octets).ok()?;
-    let stored = stored_in(alloc, &message, entries).ok()?;
+    let mut index = PartIndex::new(alloc, entries).ok()?;
+    let stored = index.add(alloc, 1, &message).ok()?;
     let entry = Entry {
         number: 1,
         folder,
@@ -128,4 +129,72 @@ fn fields_and_parts(rt: HostRuntime) {
     ];
     let line = line_of(rt.alloc(), MESSAGE, b"\xff", &entries);
     assert!(rt; line.is_some_and(|line| line.as_slice() == LINE));
+}
+
+// Whether these are the numbers of the places, each with this part.
+fn are_places(places: &[Place], part: usize, numbers: &[u32]) -> bool {
+    places.len() == numbers.len()
+        && places.iter().zip(numbers).all(|(place, number)| place.number == *number
+            && place.part == part)
+}
+
+// Whether two messages with the same content are those of its entry, each with its first part, and no other is.
+fn are_messages(alloc: Global, digest: [u8; 32], other: [u8; 32]) -> Option<bool> {
+    let entries = [
+        PartEntry {
+            number: 5,
+            digest: other,
+        },
+        PartEntry { number: 7, digest },
+    ];
+    let message = Message::read(alloc, MESSAGE).ok()?;
+    let without = Message::read(alloc, b"x").ok()?;
+    let mut index = PartIndex::new(alloc, &entries).ok()?;
+    index.add(alloc, 9, &message).ok()?;
+    index.add(alloc, 3, &without).ok()?;
+    index.add(alloc, 1, &message).ok()?;
+    Some(
+        are_places(index.messages_with(&digest), 1, &[9, 1])
+            && are_places(index.messages_with(&other), 0, &[]),
+    )
+}
+
+#[test]
+fn messages_of_entries(rt: HostRuntime) {
+    let digest = Sha256::digest(b"one".as_slice());
+    assert!(rt; are_messages(rt.alloc(), digest, [0; 32]) == Some(true));
+}
+
+// 3,000 entries, of which entry n has the content n modulo 1,000.
+fn many_entries(alloc: Global) -> Result<Vec<PartEntry>, AllocError> {
+    let mut entries = Vec::new(alloc);
+    for number in 0..3000_u32 {
+        let digest = Sha256::digest((number % 1000).to_le_bytes().as_slice());
+        entries.push(PartEntry { number, digest })?;
+    }
+    Ok(entries)
+}
+
+// Whether a message with this content has the three entries with it, and they have it.
+fn are_three(alloc: Global, index: &mut PartIndex, number: u32, numbers: &[u32]) -> Option<bool> {
+    let content = number.to_le_bytes();
+    let mut octets = Vec::new(alloc);
+    octets.push(b'\n').ok()?;
+    octets.extend_from_slice(&content).ok()?;
+    let message = Message::read(alloc, &octets).ok()?;
+    let stored = index.add(alloc, number, &message).ok()?;
+    let digest = Sha256::digest(content.as_slice());
+    Some(are_places(&stored, 0, numbers) && are_places(index.messages_with(&digest), 0, &[number]))
+}
+
+#[test]
+fn many_messages(rt: HostRuntime) -> Result<(), Fail> {
+    let alloc = rt.alloc();
+    let entries = many_entries(alloc)?;
+    let mut index = PartIndex::new(alloc, &entries)?;
+    for number in 0..1000_u32 {
+        let numbers = [number, number + 1000, number + 2000];
+        assert!(rt; are_three(alloc, &mut index, number, &numbers) == Some(true));
+    }
+    Ok(())
 }
