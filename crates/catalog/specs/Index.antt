@@ -33,6 +33,8 @@ pub record IsIndex (index : PartIndex) (entries : List PartEntry) (messages : Li
   pub has_entries : (digest : List ℕ) → found index.entries digest ≡ slots_from 0 digest entries
   pub has_messages : (digest : List ℕ) → is_stored entries digest ≡ true → found index.messages digest ≡ messages_with digest messages
 
+-- ---- private: what one part of a message adds
+
 -- whether there are such entries, and the first has no place
 abbrev pub is_new : (ℕ → Option Place) → List Slot → Bool
 is_new known [] = false

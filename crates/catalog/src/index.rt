@@ -3,13 +3,13 @@
 // An ordered map finds the entries with a digest, and another one the messages that have a part with it. So a part of a
 // message takes time in the logarithm of the number of entries, and each pair of an entry and a message that belong
 // together takes time in the logarithm of those of the message.
-ghost use Rattle.std.specs.Prelude.{◌≡◌, ℕ, List, [], ◌∷◌, ◌++◌, Bool, true, bytes_eq, if◌then◌else◌, IfOk, OnOk, option_map, cond};
+ghost use Rattle.std.specs.Prelude.{◌≡◌, ℕ, List, [], ◌∷◌, ◌++◌, true, bytes_eq, if◌then◌else◌, IfOk, OnOk};
 ghost use Rattle.std.specs.BTreeMap.{IsOrdered, get, values};
 ghost use Rattle.std.specs.List.{slice_get};
-ghost use Rattle.std.specs.Option.{option_and_then, option_map_or};
+ghost use Rattle.std.specs.Option.{option_and_then};
 ghost use Rattle.std.specs.Ordering.{nat_cmp};
 ghost use Rattle.catalog.specs.Index.{IsIndex, at_slots, first_with, found, is_new, is_stored, slots_from, with_slots};
-ghost use Rattle.catalog.specs.Stored.{Numbered, digests_of, messages_with, place_of, stored_in, stored_place};
+ghost use Rattle.catalog.specs.Stored.{Numbered, digests_of, messages_with, stored_in, stored_place};
 ghost use Rattle.catalog.specs.declared.entry.PartEntry.{PartEntry};
 
 use crate::entry::{PartEntry, Place};
@@ -58,7 +58,7 @@ impl PartIndex {
     ///
     /// # Errors
     ///
-    /// `AllocError` if memory is refused. Then nothing is known of the index.
+    /// `AllocError` if memory is refused. After that, nothing is known of the index.
     pub fn add(
         &mut self,
         alloc: Global,
@@ -88,7 +88,7 @@ impl PartIndex {
     }
 
     /// Returns the messages that have a part with this content, in the order in which they were added, each with the
-    /// first such part. The digest is that of one of the entries.
+    /// first such part. Nothing is promised for a digest that no entry has.
     pub fn messages_with(&self, digest: &[u8; 32]) -> &[Place]
         ensures { (entries : List PartEntry) (messages : List Numbered)
             → IsIndex self.now entries messages
