@@ -3,4 +3,8 @@ pub mod FieldLemmas
 pub mod Plain
 pub mod PlainLines
 pub mod StoredLemmas
+pub mod MapLemmas
+pub mod SlotLemmas
+pub mod InOrder
+pub mod AddLemmas
 mod Examples

@@ -8,3 +8,5 @@ pub mod Fields
 pub mod Stored
 -- the objects and their lines
 pub mod Lines
+-- what an index of entries and messages has
+pub mod Index

@@ -1,4 +1,4 @@
--- Which of a user's part entries have the content of a part of a message.
+-- Which of a user's part entries have the content of a part of a message, and which messages have that of a part entry.
 use Rattle.std.specs.Prelude.{ℕ, List, map, bytes_eq, Option, option_map, position, filter_map}
 use Rattle.sha2.specs.Sha256.{sha256}
 use Rattle.mime_decode.specs.Mail.{Mail, Part}
@@ -20,3 +20,16 @@ stored_place digests entry = option_map (λ part. record { number = entry.number
 -- those of all entries, in their order
 abbrev pub stored_in : List (List ℕ) → List PartEntry → List Place
 stored_in digests entries = filter_map (stored_place digests) entries
+
+-- a message that is an entry: the number of the entry, and the message
+pub record Numbered : Type 0 where
+  pub number : ℕ
+  pub mail : Mail
+
+-- the number of a message and its first part with this content, if there is one
+abbrev pub message_place : List ℕ → Numbered → Option Place
+message_place digest message = option_map (λ part. record { number = message.number; part = part }) (place_of (digests_of message.mail) digest)
+
+-- those of all messages, in their order
+abbrev pub messages_with : List ℕ → List Numbered → List Place
+messages_with digest messages = filter_map (message_place digest) messages

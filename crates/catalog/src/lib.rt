@@ -1,8 +1,9 @@
 //! The lines of a catalog, which describe the entries of a user for other programs, in JSON (RFC 8259).
 //!
-//! [`message_line`] gives the line of a message, [`part_line`] that of a part, and [`stored_in`] finds the parts of a
-//! message among a user's entries. `specs/Lines` defines the lines, `specs/Texts` what they have for bytes that people
-//! chose, `specs/Fields` the header fields, and `specs/Stored` which entries are parts of a message.
+//! [`message_line`] gives the line of a message, [`part_line`] that of a part, and a [`PartIndex`] finds the parts of
+//! messages among a user's entries, and the messages of a part entry. `specs/Lines` defines the lines, `specs/Texts` what
+//! they have for bytes that people chose, `specs/Fields` the header fields, and `specs/Stored` which entries have the
+//! content of a part of a message.
 //!
 //! No command uses this crate.
 //!
@@ -19,14 +20,16 @@
 //! decoded. Of the header fields that a line has, a value is that of the first field with its name, unfolded.
 //!
 //! The caller gives an entry's number, size and SHA-256; a line has what it gives. The entries that have the content of a
-//! part of a message are found by the SHA-256 of the parts' contents, each at the first part that has its content.
+//! part of a message are found by the SHA-256 of the parts' contents, each at the first part that has its content, and so
+//! are the messages that have the content of an entry. Both are in the order in which the caller gives them.
 //!
-//! By `message_line`, `part_line`, `stored_in`; laws `texts_are_read_back`, `lines_have_no_line_break`,
+//! By `message_line`, `part_line`, `PartIndex`; laws `texts_are_read_back`, `lines_have_no_line_break`,
 //! `fields_are_the_first_of_their_names`.
 #![tactic(auto)]
 
 mod entry;
 mod fields;
+mod index;
 pub mod laws;
 mod line;
 mod stored;
@@ -35,5 +38,5 @@ mod tests;
 mod text;
 
 pub use entry::{Entry, PartEntry, Place};
+pub use index::{PartIndex, Slot};
 pub use line::{message_line, part_line};
-pub use stored::stored_in;

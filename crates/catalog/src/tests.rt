@@ -1,5 +1,5 @@
 // Lines next to texts that Python's `json` and `base64` wrote.
-use crate::{Entry, PartEntry, Place, message_line, part_line, stored_in};
+use crate::{Entry, PartEntry, PartIndex, Place, message_line, part_line};
 use mime_decode::Message;
 use sha2::{Digest, Sha256};
 use std::alloc::{AllocError, Global};
@@ -93,10 +93,16 @@ fn long_names(rt: HostRuntime) -> Result<(), Fail> {
     Ok(())
 }
 
+// The entries with contents of the message's parts, if there is memory.
+fn stored_in(alloc: Global, message: &Message<'_>, entries: &[PartEntry]) -> Option<Vec<Place>> {
+    let mut index = PartIndex::new(alloc, entries).ok()?;
+    index.add(alloc, 1, message).ok()
+}
+
 // The line of a message in a folder, if there is memory. The entries are those of parts.
 fn line_of(alloc: Global, octets: &[u8], folder: &[u8], entries: &[PartEntry]) -> Option<Vec<u8>> {
     let message = Message::read(alloc, octets).ok()?;
-    let stored = stored_in(alloc, &message, entries).ok()?;
+    let stored = stored_in(alloc, &message, entries)?;
     let entry = Entry {
         number: 1,
         folder,
@@ -128,4 +134,108 @@ fn fields_and_parts(rt: HostRuntime) {
     ];
     let line = line_of(rt.alloc(), MESSAGE, b"\xff", &entries);
     assert!(rt; line.is_some_and(|line| line.as_slice() == LINE));
+}
+
+// Whether these are the numbers of the places, each with this part.
+fn are_places(places: &[Place], part: usize, numbers: &[u32]) -> bool {
+    places.len() == numbers.len()
+        && places.iter().zip(numbers).all(|(place, number)| place.number == *number
+            && place.part == part)
+}
+
+// Adds a message to an index. Gives its entries, if there is memory.
+fn added(alloc: Global, index: &mut PartIndex, number: u32, octets: &[u8]) -> Option<Vec<Place>> {
+    let message = Message::read(alloc, octets).ok()?;
+    index.add(alloc, number, &message).ok()
+}
+
+// Whether a message is added that has entries with these numbers, each at this part.
+fn is_added(
+    alloc: Global,
+    index: &mut PartIndex,
+    message: (u32, &[u8]),
+    part: usize,
+    numbers: &[u32],
+) -> bool {
+    match added(alloc, index, message.0, message.1) {
+        Some(stored) => are_places(&stored, part, numbers),
+        None => false,
+    }
+}
+
+// Whether two messages with the same content are those of its entry, each with its first part, and no others.
+fn are_messages(alloc: Global, index: &mut PartIndex, digest: &[u8; 32]) -> bool {
+    is_added(alloc, index, (9, MESSAGE), 1, &[7])
+        && is_added(alloc, index, (3, b"x"), 0, &[])
+        && is_added(alloc, index, (1, MESSAGE), 1, &[7])
+        && are_places(index.messages_with(digest), 1, &[9, 1])
+        && are_places(index.messages_with(&[0; 32]), 0, &[])
+}
+
+#[test]
+fn messages_of_entries(rt: HostRuntime) -> Result<(), Fail> {
+    let digest = Sha256::digest(b"one".as_slice());
+    let entries = [
+        PartEntry {
+            number: 5,
+            digest: [0; 32],
+        },
+        PartEntry { number: 7, digest },
+    ];
+    let mut index = PartIndex::new(rt.alloc(), &entries)?;
+    assert!(rt; are_messages(rt.alloc(), &mut index, &digest));
+    Ok(())
+}
+
+// 3,000 entries, of which entry n has the content n modulo 1,000.
+fn many_entries(alloc: Global) -> Result<Vec<PartEntry>, AllocError> {
+    let mut entries = Vec::new(alloc);
+    for number in 0..3000_u32 {
+        let digest = Sha256::digest((number % 1000).to_le_bytes().as_slice());
+        entries.push(PartEntry { number, digest })?;
+    }
+    Ok(entries)
+}
+
+// A message without fields, with this content.
+fn message_of(alloc: Global, content: &[u8]) -> Result<Vec<u8>, AllocError> {
+    let mut octets = Vec::new(alloc);
+    octets.push(b'\n')?;
+    octets.extend_from_slice(content)?;
+    Ok(octets)
+}
+
+// Whether a message whose content is its number is added, has these entries, and is their only message.
+fn is_alone(
+    alloc: Global,
+    index: &mut PartIndex,
+    number: u32,
+    numbers: &[u32],
+) -> Result<bool, AllocError> {
+    let content = number.to_le_bytes();
+    let octets = message_of(alloc, &content)?;
+    let digest = Sha256::digest(content.as_slice());
+    Ok(
+        is_added(alloc, index, (number, &octets), 0, numbers)
+            && are_places(index.messages_with(&digest), 0, &[number]),
+    )
+}
+
+// Whether each of a thousand messages has the three entries with its content.
+fn have_three(alloc: Global, index: &mut PartIndex) -> Result<bool, AllocError> {
+    for number in 0..1000_u32 {
+        let numbers = [number, number + 1000, number + 2000];
+        if !is_alone(alloc, index, number, &numbers)? {
+            return Ok(false);
+        }
+    }
+    Ok(true)
+}
+
+#[test]
+fn many_messages(rt: HostRuntime) -> Result<(), Fail> {
+    let entries = many_entries(rt.alloc())?;
+    let mut index = PartIndex::new(rt.alloc(), &entries)?;
+    assert!(rt; have_three(rt.alloc(), &mut index)?);
+    Ok(())
 }
