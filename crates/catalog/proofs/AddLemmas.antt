@@ -1,5 +1,5 @@
 -- An index without entries, and one with one more message.
-use Rattle.std.proofs.Common.{◌≡◌, ℕ, List, [], ◌∷◌, ◌++◌, true, false, true≢false, if◌then◌else◌, Option, Some, None, Result, Ok, Err, OnOk, bytes_eq, length, option_map, refl, sym, ap, ◌∙◌, arith}
+use Rattle.std.proofs.Common.{◌≡◌, ℕ, List, [], ◌∷◌, ◌++◌, true, false, true≢false, if◌then◌else◌, Option, Some, None, Result, Ok, Err, OnOk, length, option_map, refl, sym, ap, ◌∙◌, arith}
 use Rattle.std.specs.BTreeMap.{BTreeMap, btree_map_len, is_at}
 use Rattle.std.specs.Cmp.Lexicographic.{slice_cmp}
 use Rattle.std.specs.Global.{Vec}

@@ -1,4 +1,4 @@
-use Rattle.std.proofs.Common.{◌≡◌, ◌<◌, [], ℕ, List, ap, ◌∙◌, sym, arith, get_or, length, take}
+use Rattle.std.proofs.Common.{◌<◌, [], ℕ, List, ap, ◌∙◌, sym, arith, get_or, length}
 use Rattle.std.specs.BTreeMap.{get}
 use Rattle.std.specs.List.{slice_get}
 use Rattle.std.specs.Option.{option_and_then}
