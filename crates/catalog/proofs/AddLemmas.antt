@@ -10,7 +10,8 @@ use Rattle.std.specs.Ordering.{nat_cmp}
 use Rattle.std.proofs.lemmas.List.{nil_from_length}
 use Rattle.std.proofs.lemmas.List.Elements.{filter_map-append}
 use Rattle.std.proofs.lemmas.Slice.Eq.{bytes_eq-Decides}
-use Rattle.catalog.specs.Index.{first_with, found, is_stored, slots_from}
+use Rattle.catalog.specs.Adding.{first_with}
+use Rattle.catalog.specs.Index.{found, is_stored, slots_from}
 use Rattle.catalog.specs.Stored.{Numbered, digests_of, message_place, messages_with, place_of}
 use Rattle.catalog.specs.declared.entry.PartEntry.{PartEntry}
 use Rattle.catalog.specs.declared.entry.Place.{Place}

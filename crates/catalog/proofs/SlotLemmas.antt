@@ -10,7 +10,8 @@ use Rattle.std.proofs.lemmas.List.Folds.{position_or_len_push}
 use Rattle.std.proofs.lemmas.List.Sums.{fold-append, prefix_len-le-length}
 use Rattle.std.proofs.lemmas.Option.{none-some, same_Some}
 use Rattle.std.proofs.lemmas.Slice.Eq.{bytes_eq-Decides}
-use Rattle.catalog.specs.Index.{at_slots, first_with, is_new, is_stored, slots_from, with_slots}
+use Rattle.catalog.specs.Adding.{at_slots, first_with, is_new, with_slots}
+use Rattle.catalog.specs.Index.{is_stored, slots_from}
 use Rattle.catalog.specs.Stored.{place_of, stored_place}
 use Rattle.catalog.specs.declared.entry.PartEntry.{PartEntry}
 use Rattle.catalog.specs.declared.entry.Place.{Place}

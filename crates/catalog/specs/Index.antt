@@ -1,14 +1,13 @@
 -- What an index has for a digest.
-use Rattle.std.specs.Prelude.{◌≡◌, ℕ, ◌+◌, ◌==◌, List, [], ◌∷◌, Bool, true, false, Option, Some, bytes_eq, fold, is_none, if◌then◌else◌}
+use Rattle.std.specs.Prelude.{◌≡◌, ℕ, ◌+◌, List, [], ◌∷◌, Bool, true, bytes_eq, if◌then◌else◌}
 use Rattle.std.specs.BTreeMap.{BTreeMap, get}
 use Rattle.std.specs.Cmp.Lexicographic.{slice_cmp}
 use Rattle.std.specs.List.{list_any}
 use Rattle.std.specs.Option.{option_map_or}
 use Rattle.std.specs.Ordering.{nat_cmp}
 use Rattle.std.specs.Global.{Vec}
-use Rattle.catalog.specs.Stored.{Numbered, messages_with, place_of}
+use Rattle.catalog.specs.Stored.{Numbered, messages_with}
 use Rattle.catalog.specs.declared.entry.PartEntry.{PartEntry}
-use Rattle.catalog.specs.declared.entry.Place.{Place}
 use Rattle.catalog.specs.declared.index.Slot.{Slot}
 use Rattle.catalog.specs.declared.index.PartIndex.{PartIndex}
 
@@ -32,22 +31,3 @@ is_stored entries digest = list_any (λ (entry : PartEntry). bytes_eq entry.dige
 pub record IsIndex (index : PartIndex) (entries : List PartEntry) (messages : List Numbered) : Type 0 where
   pub has_entries : (digest : List ℕ) → found index.entries digest ≡ slots_from 0 digest entries
   pub has_messages : (digest : List ℕ) → is_stored entries digest ≡ true → found index.messages digest ≡ messages_with digest messages
-
--- ---- private: what one part of a message adds
-
--- whether there are such entries, and the first has no place
-abbrev pub is_new : (ℕ → Option Place) → List Slot → Bool
-is_new known [] = false
-is_new known (slot ∷ slots) = is_none (known slot.at)
-
--- the places of entries, and at the places of these entries the part
-abbrev pub at_slots : ℕ → List Slot → (ℕ → Option Place) → ℕ → Option Place
-at_slots part slots known at = fold (λ found (slot : Slot). if slot.at == at then Some (record { number = slot.number; part = part }) else found) (known at) slots
-
--- the same, unless the entries have a place
-abbrev pub with_slots : ℕ → List Slot → (ℕ → Option Place) → ℕ → Option Place
-with_slots part slots known at = if is_new known slots then at_slots part slots known at else known at
-
--- a message and its first part with this digest, if there is one
-abbrev pub first_with : ℕ → List (List ℕ) → List ℕ → List Place
-first_with number digests digest = option_map_or (λ part. record { number = number; part = part } ∷ []) (place_of digests digest) []

@@ -10,3 +10,5 @@ pub mod Stored
 pub mod Lines
 -- what an index of entries and messages has
 pub mod Index
+-- private: what one part of a message adds to it
+pub mod Adding

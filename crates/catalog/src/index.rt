@@ -8,7 +8,8 @@ ghost use Rattle.std.specs.BTreeMap.{IsOrdered, get, values};
 ghost use Rattle.std.specs.List.{slice_get};
 ghost use Rattle.std.specs.Option.{option_and_then};
 ghost use Rattle.std.specs.Ordering.{nat_cmp};
-ghost use Rattle.catalog.specs.Index.{IsIndex, at_slots, first_with, found, is_new, is_stored, slots_from, with_slots};
+ghost use Rattle.catalog.specs.Adding.{at_slots, first_with, is_new, with_slots};
+ghost use Rattle.catalog.specs.Index.{IsIndex, found, is_stored, slots_from};
 ghost use Rattle.catalog.specs.Stored.{Numbered, digests_of, messages_with, stored_in, stored_place};
 ghost use Rattle.catalog.specs.declared.entry.PartEntry.{PartEntry};
 

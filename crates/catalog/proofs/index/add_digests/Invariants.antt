@@ -3,7 +3,8 @@ use Rattle.std.specs.BTreeMap.{get}
 use Rattle.std.specs.List.{slice_get}
 use Rattle.std.specs.Option.{option_and_then}
 use Rattle.std.specs.Ordering.{nat_cmp}
-use Rattle.catalog.specs.Index.{first_with, found, is_stored, slots_from}
+use Rattle.catalog.specs.Adding.{first_with}
+use Rattle.catalog.specs.Index.{found, is_stored, slots_from}
 use Rattle.catalog.specs.Stored.{stored_place}
 use Rattle.catalog.specs.declared.entry.PartEntry.{PartEntry}
 use Rattle.catalog.proofs.index.add_digests.Given as goal

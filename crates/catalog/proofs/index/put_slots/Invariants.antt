@@ -1,7 +1,7 @@
 use Rattle.std.proofs.Common.{◌≡◌, ℕ, take}
 use Rattle.std.specs.BTreeMap.{get}
 use Rattle.std.specs.Ordering.{nat_cmp}
-use Rattle.catalog.specs.Index.{at_slots}
+use Rattle.catalog.specs.Adding.{at_slots}
 use Rattle.catalog.proofs.index.put_slots.Given as goal
 
 abbrev pub invariant-loop-slot : goal.invariant-loop-slot

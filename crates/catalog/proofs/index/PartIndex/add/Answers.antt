@@ -2,7 +2,7 @@ use Rattle.std.proofs.Common.{◌++◌, sym, ap, ◌∙◌, length, true}
 use Rattle.std.specs.List.{slice_get}
 use Rattle.std.specs.Option.{option_and_then}
 use Rattle.std.proofs.lemmas.Result.{IfOk-weaker}
-use Rattle.catalog.specs.Index.{first_with}
+use Rattle.catalog.specs.Adding.{first_with}
 use Rattle.catalog.specs.Stored.{digests_of, messages_with, stored_in, stored_place}
 use Rattle.catalog.proofs.AddLemmas.{always, no_entries, nothing_stored, one_more_message}
 use Rattle.catalog.proofs.InOrder.{values_in_order}
