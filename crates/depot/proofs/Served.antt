@@ -14,7 +14,7 @@ use Rattle.part_store.specs.Standing.{IsStored}
 use Rattle.refusals.specs.declared.refusal.Refusal.{Refusal}
 use Rattle.depot_actions.specs.Deliveries.{MayLeaveAll}
 use Rattle.depot_jobs.specs.Host.{HostState}
-use Rattle.depot_cli.specs.Requests.{request_command}
+use Rattle.depot_cli.specs.Requests.{on_depot, request_command}
 use Rattle.depot_batch.specs.Asked.{Text}
 use Rattle.depot_batch.specs.Batch.{HasServed, MayLeaveIn}
 use Rattle.depot_batch.specs.Batch as batch
@@ -68,10 +68,10 @@ module _ {D : Type 0} (g : Ghosts D) where
   made : (name : Text) (turn : Turn) (writing : Writing) (before : Entries) (old new : DepotAndOutput (Held (FileStore D g))) (trees : Trees) → Shows g before old.depot → HasCleanDisk (file_state new.depot)
       → HasHappened (batch.Did over_files) name turn writing old new → MayLeaveIn turn (file_state old.depot) old.host new.host trees
       → (held : Entries) × MakesIn turn old.host new.host before held × IsStored trees held
-  made name (Alone line outcome) writing before old new trees shows clean it (ToReply request, is, (octets, read, may)) =
-      let can = left_by (request_command request octets) (file_state old.depot) trees may in
+  made name (Alone line outcome) writing before old new trees shows clean it (ToReply command, is, (octets, read, may)) =
+      let can = left_by (request_command (on_depot command) octets) (file_state old.depot) trees may in
       let one = can.1 before (shows can.0).0 in
-      (one.1, (ToReply request, is, (octets, read, (one.0, one.2))), one.3)
+      (one.1, (ToReply command, is, (octets, read, (one.0, one.2))), one.3)
   made name (Alone line outcome) writing before old new trees shows clean it (IntoFile export, is, may) = absurd may
   made name (Together lines) writing before old new trees shows clean it may = made_together lines before old.depot old.host new.host trees shows (inl (it.done clean).0) may
   made name (Withdrawn lines) Whole before old new trees shows clean it may = made_together lines before old.depot old.host new.host trees shows (inr it.some) may

@@ -14,7 +14,7 @@ use Rattle.refusals.specs.declared.refusal.Refusal.{Refusal}
 use Rattle.depot_actions.specs.Deliveries.{AcceptsAll}
 use Rattle.depot_actions.specs.DepotState.{Accepts, Export as Exports, Leaves, Listed, Text as Written}
 use Rattle.depot_jobs.specs.Host.{HostState}
-use Rattle.depot_cli.specs.Requests.{request_command}
+use Rattle.depot_cli.specs.Requests.{on_depot, request_command}
 use Rattle.depot_batch.specs.Asked.{Text}
 use Rattle.depot_batch.specs.Batch as batch
 use Rattle.depot_batch.specs.Effects.{Accepted, AcceptedAll, Declined, DepotAndOutput, Effect, HasCome, HasHappened, IsDone, IsRefused, NotAsked, Unchanged, depot_and_output}
@@ -42,17 +42,17 @@ so one more = record { after = one.after; is = more one.after one.is; fits = one
 module _ {A : Type 0} {One : Effect → Type 0} {Other : A → Effect → Type 0} {Fits : A → Type 0}
     (leads : (effect : Effect) → One effect → Fitting Fits (λ after. Other after effect)) (name : Text) (host host2 : HostState) where
   done_leads : (asked : Asked) (text : List ℕ) → IsDone One name asked text host host2 → Fitting Fits (λ after. IsDone (Other after) name asked text host host2)
-  done_leads (ToReply request) text done =
+  done_leads (ToReply command) text done =
       let answered = done.2 in
-      so (leads (Accepted (request_command request done.0) answered.0) answered.1) (λ after is. (done.0, done.1, (answered.0, is, answered.2)))
+      so (leads (Accepted (request_command (on_depot command) done.0) answered.0) answered.1) (λ after is. (done.0, done.1, (answered.0, is, answered.2)))
   done_leads (IntoFile export) text done =
       let made = done.1 in
       so (leads (Accepted (Exports export.user.now export.number export.encoding) (Written made.0)) made.2) (λ after is. (done.0, (made.0, made.1, is)))
 
   refused_leads : (asked : Asked) (refusal : Refusal) → IsRefused One name asked refusal host host2 → Fitting Fits (λ after. IsRefused (Other after) name asked refusal host host2)
-  refused_leads (ToReply request) refusal refused = elim refused [
+  refused_leads (ToReply command) refusal refused = elim refused [
     | inl unread ↦ so (leads NotAsked unread.1) (λ after is. inl (unread.0, is))
-    | inr asked ↦ so (leads (Declined (request_command request asked.0) refusal) asked.2) (λ after is. inr (asked.0, asked.1, is))
+    | inr asked ↦ so (leads (Declined (request_command (on_depot command) asked.0) refusal) asked.2) (λ after is. inr (asked.0, asked.1, is))
   ]
   refused_leads (IntoFile export) refusal refused = elim refused [
     | inl unmade ↦ so (leads Unchanged unmade.1) (λ after is. inl (unmade.0, is))
