@@ -17,7 +17,7 @@ pub struct Entry<'a> {
     pub digest: [u8; 32],
 }
 
-/// An entry of a part, as [`crate::stored_in`] needs it. The caller makes it.
+/// An entry of a part, as [`crate::PartIndex`] needs it. The caller makes it.
 #[derive(Clone, Copy, Drop)]
 pub struct PartEntry {
     /// The number.

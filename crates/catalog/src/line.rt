@@ -15,7 +15,7 @@ use std::alloc::{AllocError, Global};
 /// Returns the line of a message, without a line break: a JSON object with the members `number`, `kind`, `folder`, `name`,
 /// `media`, `octets`, `sha256`, `parts`, `stored` and `fields`, in the order of their names.
 ///
-/// `stored` are entries of the message's parts, as [`crate::stored_in`] returns them. `fields` has the first From, To,
+/// `stored` are entries of the message's parts, as [`crate::PartIndex`] returns them. `fields` has the first From, To,
 /// Cc, Subject, Date, Message-ID, In-Reply-To and References of the message, unfolded, each under its name.
 ///
 /// # Errors
