@@ -6,7 +6,7 @@ use Rattle.glob_match.specs.declared.comparator.Comparator.{Comparator}
 use Rattle.glob_match.specs.declared.token.Token.{Token}
 use Rattle.glob_match.specs.declared.token.Token.TheVariants.{Literal, AnyOctet, Star}
 use Rattle.glob_match.specs.Comparison.{same_octet}
-use Rattle.glob_match.specs.Matching.{Fit, captures_of, empty_fit, least_fit, literal_fit, match_of, star_fit}
+use Rattle.glob_match.specs.Matching.{Fit, captures_of, least_fit, literal_fit, match_of, star_fit}
 use Rattle.glob_match.specs.Tokens.{backslash, question_mark, star, token_of, tokens_escaped, tokens_of}
 use Rattle.mail_matching.specs.Bigrams.{Covers, bit_of, is_special}
 use Rattle.mail_matching.proofs.NotContained.{rest_covered, same_bit}

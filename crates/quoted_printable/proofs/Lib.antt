@@ -1,4 +1,3 @@
-mod Breaks
 pub mod Decoded
 pub mod Encoded
 mod Examples

@@ -1,8 +1,9 @@
 // How texts are read.
 //
-// Escapes that are close together are decoded together, up to 32 bytes that are then appended at once. A text with
-// few escapes pays about a tenth for it, and one of only escapes takes a third of the time. There is no error except
-// memory: any text has a reading. Lines are those of text_lines, so a CR alone ends none.
+// Escapes that are close together are decoded together, up to 32 bytes that are then appended at once. That makes
+// texts with many escapes much faster, and texts with few a little slower. A whole text is read as a decoder reads one
+// piece and its end, but the bytes between the two are lent. There is no error except memory: any text has a reading.
+// Lines are those of text_lines, so a CR alone ends none.
 ghost use Rattle.std.specs.Prelude.{◌≡◌, ◌∷◌, ◌++◌, ◌<◌, ◌≤◌, IfOk, IfSome, OnOk, IsTrue, length, slice_index, take};
 ghost use Rattle.text_lines.specs.Lines.{text_line};
 ghost use Rattle.quoted_printable.specs.Private.{AreFor, Extends, Decodes};

@@ -1,5 +1,5 @@
 // Texts read in pieces.
-ghost use Rattle.std.specs.Prelude.{◌≡◌, ◌++◌, ◌<◌, ◌≤◌, ℕ, [], false, true, List, IfOk, IfSome, IsTrue, OnErr, OnOk, length, slice_index};
+ghost use Rattle.std.specs.Prelude.{◌≡◌, ◌++◌, ◌<◌, ◌≤◌, ℕ, [], false, true, List, IfOk, OnErr, OnOk, length, slice_index};
 ghost use Rattle.octets.specs.Blank.{is_blank};
 ghost use Rattle.octets.specs.Escapes.{is_hex};
 ghost use Rattle.quoted_printable.specs.QuotedPrintable.{decoding_of};
@@ -97,8 +97,9 @@ fn feed_held(
     ensures begun { OnErr result (Extends held.old.items held.new.items) }
     ensures more { Extends out.old.items out.new.items }
 {
-    if let Some(octets) = lone_break(held, piece) {
-        return out.extend_from_slice(octets);
+    if held.is_empty() {
+        *held = append_known(piece, out)?.to_vec(alloc)?;
+        return Ok(());
     }
     let rest = hold(held, piece)?;
     if rest.is_empty() {
@@ -107,40 +108,6 @@ fn feed_held(
     let rest = release(held, rest, out)?;
     *held = append_known(rest, out)?.to_vec(alloc)?;
     Ok(())
-}
-
-// The meaning of a piece that is a line break and nothing else, hard or soft, if no bytes are kept before it.
-fn lone_break<'a>(held: &[u8], piece: &'a [u8]) -> Option<&'a [u8]>
-    ensures none { IfSome result (λ octets. held.now ≡ []) }
-    ensures stands { IfSome result (λ octets. (after : List ℕ) → decoding_of (piece.now ++ after)
-        ≡ octets.now ++ decoding_of after) }
-{
-    if !held.is_empty() {
-        return None;
-    }
-    if is_hard_break(piece) {
-        return Some(piece);
-    }
-    if is_soft_break(piece) {
-        return Some(piece.split_at(0).0);
-    }
-    None
-}
-
-#[inline]
-fn is_hard_break(piece: &[u8]) -> bool
-    ensures { IsTrue result → (after : List ℕ) → decoding_of (piece.now ++ after)
-        ≡ piece.now ++ decoding_of after }
-{
-    piece == b"\n".as_slice() || piece == b"\r\n".as_slice()
-}
-
-#[inline]
-fn is_soft_break(piece: &[u8]) -> bool
-    ensures { IsTrue result → (after : List ℕ) → decoding_of (piece.now ++ after)
-        ≡ decoding_of after }
-{
-    piece == b"=\n".as_slice() || piece == b"=\r\n".as_slice()
 }
 
 // Keeps the first bytes of a text, as many as can be kept after those that are, and returns the text after them.

@@ -1,4 +1,4 @@
-use Rattle.std.proofs.Common.{◌-◌, ◌∙◌, get_or, sym, arith}
+use Rattle.std.proofs.Common.{◌-◌, ◌∙◌, sym, arith}
 use Rattle.mail_matching.proofs.NotContained.{unset}
 use Rattle.mail_matching.proofs.NotFitting.{not_fitting}
 use Rattle.mail_matching.proofs.bigrams.Bigrams.may_fit.Goals as goal
