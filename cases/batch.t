@@ -537,7 +537,7 @@ Only if: python3 -c 'import sqlite3' # there is no sqlite3 for python3
     > answers = said.split(b"\n")
     > assert len(answers) == len(names) + 3 and answers[-1] == b"" and said.isascii() is False
     > values = [json.loads(answer) for answer in answers[:-1]]
-    > assert all(json.dumps(v, separators=(",", ":"), sort_keys=True, ensure_ascii=False).replace("\x7f", "\x7f").encode() == a for v, a in zip(values, answers))
+    > assert all(json.dumps(v, separators=(",", ":"), sort_keys=True, ensure_ascii=False).encode() == a for v, a in zip(values, answers))
     > assert all(v["status"] == 0 for v in values)
     > listed = values[-1]["entries"]
     > assert listed == [e for v in values[1:-1] for e in v["entries"]]
