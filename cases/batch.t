@@ -472,9 +472,9 @@ Only if: python3 -c 'import sqlite3' # there is no sqlite3 for python3
     ? the commands are script, code, deliver, list, since, export, remove and migrate
     = 2
     $ for line in 'json ' ' json' '"json"' JSON 'json ann' jso jsonl; do printf '%s\n' "$line" | depot batch mail.depot; done | sort | uniq -c | tr -s ' '
+     7 = 2
      5 ? the commands are script, code, deliver, list, since, export, remove and migrate
      2 ? words have one space between them, and others stand in quotes
-     7 = 2
     $ printf 'json\r\nlist ann\n' | depot batch mail.depot
     ? the commands are script, code, deliver, list, since, export, remove and migrate
     = 2
