@@ -423,3 +423,138 @@ Only if: python3 -c 'import sqlite3' # there is no sqlite3 for python3
     2 message "INBOX" = 0
     3 message "INBOX" = 0
     $ rm in out
+
+## answers in JSON, if the first line asks for them
+    $ printf keep > script
+    $ cat > lines <<'END'
+    > json
+    > script ann examples/documents.sieve
+    > deliver ann examples/invoice.eml
+    > list ann
+    > since ann 1
+    > export ann 1 base16 attached
+    > remove ann 1
+    > remove ann 1
+    > script ann script
+    > code bob examples/keep.svbc
+    > migrate
+    > list bob
+    > list "ann
+    > since ann one
+    > json
+    > END
+    $ depot batch mail.depot < lines
+    {"status":0}
+    {"entries":[{"folder":"Documents","kind":"part","media":"application/pdf","name":"rechnung-2026-0417.pdf","number":1,"octets":9016},{"folder":"INBOX","kind":"message","media":"message/rfc822","name":"","number":2,"octets":19165}],"status":0}
+    {"entries":[{"folder":"Documents","kind":"part","media":"application/pdf","name":"rechnung-2026-0417.pdf","number":1,"octets":9016},{"folder":"INBOX","kind":"message","media":"message/rfc822","name":"","number":2,"octets":19165}],"status":0}
+    {"entries":[{"folder":"INBOX","kind":"message","media":"message/rfc822","name":"","number":2,"octets":19165}],"status":0}
+    {"exported":1,"status":0}
+    {"removed":1,"status":0}
+    {"name":"NoSuchEntry","refused":40,"status":1}
+    {"name":"Syntax","place":1,"refused":13,"status":1}
+    {"status":0}
+    {"migrated":1,"status":0}
+    {"entries":[],"status":0}
+    {"status":2,"wrong":"words have one space between them, and others stand in quotes"}
+    {"status":2,"wrong":"NUMBER is 0 to 4294967295"}
+    {"status":2,"wrong":"the commands are script, code, deliver, list, since, export, remove and migrate"}
+    $ wc -c < attached
+    18032
+    $ printf 'json\nlist ann' | depot batch mail.depot
+    {"status":2,"wrong":"the input ended within this line"}
+    $ printf 'json\n' | depot batch mail.depot
+    $ rm script attached
+
+## the line that asks for JSON is the first one, and nothing else
+    $ printf 'list ann\njson\n' | depot batch mail.depot
+    none
+    = 0
+    ? the commands are script, code, deliver, list, since, export, remove and migrate
+    = 2
+    $ for line in 'json ' ' json' '"json"' JSON 'json ann' jso jsonl; do printf '%s\n' "$line" | depot batch mail.depot; done | sort | uniq -c | tr -s ' '
+     7 = 2
+     5 ? the commands are script, code, deliver, list, since, export, remove and migrate
+     2 ? words have one space between them, and others stand in quotes
+    $ printf 'json\r\nlist ann\n' | depot batch mail.depot
+    ? the commands are script, code, deliver, list, since, export, remove and migrate
+    = 2
+    none
+    = 0
+    $ printf json | depot batch mail.depot
+    ? the input ended within this line
+    = 2
+    $ printf '\njson\n' | depot batch mail.depot | grep -c '= 2'
+    2
+    $ { printf js; sleep 0.3; printf 'on\nlist ann\n'; } | depot batch mail.depot
+    {"entries":[],"status":0}
+
+## answers in JSON to deliveries that are ready together, and the same depot as without
+    $ : > empty
+    $ for n in 1 2 64 65 130; do rm -f mail.depot*; { echo json; yes 'deliver ann empty' | head -n "$n"; } | depot batch mail.depot > got
+    > for i in $(seq "$n"); do printf '{"entries":[{"folder":"INBOX","kind":"message","media":"message/rfc822","name":"","number":%s,"octets":0}],"status":0}\n' "$i"; done | cmp - got; depot list mail.depot ann | wc -l; done
+    1
+    2
+    64
+    65
+    130
+    $ { echo json; yes 'deliver ann empty' | head -n 3; echo 'deliver ann missing'; echo 'deliver ann empty'; } | depot batch mail.depot | cut -c 1-40
+    {"entries":[{"folder":"INBOX","kind":"me
+    {"entries":[{"folder":"INBOX","kind":"me
+    {"entries":[{"folder":"INBOX","kind":"me
+    {"name":"Read","refused":46,"status":1}
+    {"entries":[{"folder":"INBOX","kind":"me
+    $ rm empty got
+
+## after a Database in JSON the batch ends, and without a depot no line has an answer
+    $ depot script mail.depot ann examples/documents.sieve
+    stored
+    $ cp mail.depot copy && printf 'json\nlist ann\ndeliver ann examples/invoice.eml\nlist ann\n' > lines
+    $ python3 -c 'import sqlite3; d = sqlite3.connect("mail.depot"); d.execute("UPDATE users SET program = ?", (b"x",)); d.commit()'
+    $ depot batch mail.depot < lines
+    {"entries":[],"status":0}
+    {"name":"Database","refused":43,"status":1}
+    [1]
+    $ printf '%65536s' '' > spaces
+    $ depot batch spaces < lines
+    2> refused 43 Database
+    [1]
+    $ rm copy spaces
+
+## bytes that anyone chose are read back from JSON
+    $ cat > check.py <<'END'
+    > import base64, json, random, subprocess, sys
+    > random.seed(8)
+    > def octets(value): return value.encode() if isinstance(value, str) else base64.b64decode(value["base64"])
+    > def quoted(name): return b'"' + b"".join(b"\\%02x" % c for c in name) + b'"'
+    > names = [bytes([c]) for c in range(256) if c not in b'\r\n"\\'] + [b"\xed\xa0\x80", b"\xc3\xbc\xe2\x80\xa8", b"x" * 16384, b"\xff" * 16384]
+    > names += [bytes(random.choices([c for c in range(1, 256) if c not in b'\r\n"\\'], k=random.randrange(1, 40))) for _ in range(300)]
+    > lines = ["json", "script ann filter"]
+    > for i, name in enumerate(names):
+    >     open(f"mail/{i}", "wb").write(b'Content-Disposition: attachment; filename="' + name + b'"\n\nx\n')
+    >     lines.append(f"deliver ann mail/{i}")
+    > text = "\n".join(lines + ["list ann", ""])
+    > said = subprocess.run(["depot", "batch", "mail.depot"], input=text.encode(), stdout=subprocess.PIPE, check=True).stdout
+    > answers = said.split(b"\n")
+    > assert len(answers) == len(names) + 3 and answers[-1] == b"" and said.isascii() is False
+    > values = [json.loads(answer) for answer in answers[:-1]]
+    > assert all(json.dumps(v, separators=(",", ":"), sort_keys=True, ensure_ascii=False).encode() == a for v, a in zip(values, answers))
+    > assert all(v["status"] == 0 for v in values)
+    > listed = values[-1]["entries"]
+    > assert listed == [e for v in values[1:-1] for e in v["entries"]]
+    > plain = subprocess.run(["depot", "list", "mail.depot", "ann"], stdout=subprocess.PIPE, check=True).stdout.split(b"\n")
+    > def unquoted(text):
+    >     out, i = b"", 0
+    >     while i < len(text):
+    >         out, i = (out + bytes([int(text[i + 1:i + 3], 16)]), i + 3) if text[i:i + 1] == b"\\" else (out + text[i:i + 1], i + 1)
+    >     return out
+    > for entry, line in zip(listed, plain):
+    >     number, kind, folder, name, media, length = line.split(b'"')[0].split()[0], line.split()[1], line.split(b'"')[1], line.split(b'"')[3], *line.split(b'"')[4].split()
+    >     want = (int(number), kind, unquoted(folder), unquoted(name), media, int(length))
+    >     assert want == (entry["number"], octets(entry["kind"]), octets(entry["folder"]), octets(entry["name"]), octets(entry["media"]), entry["octets"]), (want, entry)
+    > parts = [octets(e["name"]) for e in listed if e["kind"] == "part"]
+    > print(len(names), len(parts), sum(a == b for a, b in zip(parts, names)) > 500)
+    > END
+    $ mkdir mail && printf 'require ["foreverypart", "vnd.depot"];\nforeverypart { store "\303\274"; } discard;\n' > filter
+    $ python3 check.py
+    556 556 True
+    $ rm -r mail filter check.py

@@ -18,6 +18,11 @@ Only if: command -v flock && [ -d /proc/self ] # there is no flock or no /proc
     $ "$TOP/contrib/ask" mail.depot check ann
     2> ask: ? the commands are script, code, deliver, list, since, export, remove and migrate
     [64]
+    $ "$TOP/contrib/ask" mail.depot json
+    2> ask: ? the commands are script, code, deliver, list, since, export, remove and migrate
+    [64]
+    $ printf 'json\nlist ann\n' | "$TOP/contrib/ask" mail.depot -
+    {"entries":[],"status":0}
     $ "$TOP/contrib/ask" --once 'an id' ann@example.org mail.depot deliver ann examples/invoice.eml
     2> ask: an id has 1 to 128 visible characters of ASCII, and a recipient 1 to 1000 bytes
     [64]

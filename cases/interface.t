@@ -8,6 +8,11 @@ Both scripts take a lock by the file beside the depot. The names of what is save
     3
     $ depot export mail.depot ann 1 raw | cmp - 1.pdf && rm 1.pdf
 
+## the answers in JSON that the page shows
+    $ sed -n '/^### Answers in JSON/,/^|/s/^    //p' "$TOP/docs/INTERFACE.md" | sed 's,/tmp/,,g' > page
+    $ sed -n 's/^\$ //p; /^      /p' page > commands; grep -v '^\$ \|^      ' page > answers; wc -l < commands; sh commands | diff answers - && rm page commands answers
+    3
+
 ## new mail with its attachments, and no mail twice
 Only if: command -v flock # there is no flock
     $ cat > filter << 'END'

@@ -15,7 +15,7 @@ use Rattle.catalog.specs.declared.entry.Place.{Place}
 use Rattle.catalog.proofs.TextLemmas.{of_both}
 use Rattle.catalog.proofs.Plain.{AllPlain, ArePlain, IsPlain, array_plain, number_plain, object_plain, put_plain, string_plain}
 
-text_plain : (levels : ℕ) (octets : List ℕ) → IsPlain (suc levels) (text_value octets)
+pub text_plain : (levels : ℕ) (octets : List ℕ) → IsPlain (suc levels) (text_value octets)
 text_plain levels octets =
     of_both (IsPlain (suc levels)) octets (string_plain (suc levels) octets)
     (object_plain levels (member (codes "base64") (string (encode_of standard octets)) no_members) (string_plain levels (encode_of standard octets), tt))

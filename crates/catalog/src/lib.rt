@@ -5,7 +5,7 @@
 //! they have for bytes that people chose, `specs/Fields` the header fields, and `specs/Stored` which entries have the
 //! content of a part of a message.
 //!
-//! No command uses this crate.
+//! The answers of a batch in JSON have texts as [`text_value`] makes them.
 //!
 //! # Promises
 //!
@@ -23,7 +23,7 @@
 //! part of a message are found by the SHA-256 of the parts' contents, each at the first part that has its content, and so
 //! are the messages that have the content of an entry. Both are in the order in which the caller gives them.
 //!
-//! By `message_line`, `part_line`, `PartIndex`; laws `texts_are_read_back`, `lines_have_no_line_break`,
+//! By `message_line`, `part_line`, `PartIndex`, `text_value`; laws `texts_are_read_back`, `lines_have_no_line_break`,
 //! `fields_are_the_first_of_their_names`.
 #![tactic(auto)]
 
@@ -40,3 +40,4 @@ mod text;
 pub use entry::{Entry, PartEntry, Place};
 pub use index::{PartIndex, Slot};
 pub use line::{message_line, part_line};
+pub use text::text_value;

@@ -7,12 +7,12 @@ use base64::engine::general_purpose::STANDARD;
 use serde_json::{Value, json};
 use std::alloc::{AllocError, Global};
 
-/// The bytes as a JSON value: a string if they are UTF-8; otherwise an object with their base64.
+/// Returns the bytes as a JSON value: a string if they are UTF-8; otherwise an object whose member `base64` encodes them.
 ///
 /// # Errors
 ///
 /// `AllocError` if memory is refused.
-pub(crate) fn text_value(alloc: Global, octets: &[u8]) -> Result<Value, AllocError>
+pub fn text_value(alloc: Global, octets: &[u8]) -> Result<Value, AllocError>
     ensures { IfOk result (λ value. view value ≡ text_value octets.now) }
 {
     match str::from_utf8(octets) {

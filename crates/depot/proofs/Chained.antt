@@ -4,6 +4,7 @@ use Rattle.devices.specs.Device.{Output}
 use Rattle.devices.specs.Supply.{Supply}
 use Rattle.depot_batch.specs.Effects.{DepotAndOutput, depot_and_output}
 use Rattle.depot_batch.specs.Turns.{AreTakenBy, EndsBy, HasServedBy, Turn, Writing}
+use Rattle.depot_batch.specs.declared.format.Format.{Format}
 use Rattle.depot.specs.Batches.{LastIs, OneIs}
 
 -- How turns go on a depot, and on what goes beside it, with the same host and output; when the depot is sound; what a
@@ -112,35 +113,57 @@ module _ {D E V : Type 0} (Happens : Turn → Writing → DepotAndOutput D → D
         ends last (inr (inr (inr (inl all)))) = final last all.1 _ _ all.2 all.4 (λ after other. inr (inr (inr (inl (all.0, all.1, all.2, all.3, other, all.5)))))
         ends last (inr (inr (inr (inr all)))) = idle last _ all.6 (inr (inr (inr (inr (all.0, all.1, all.2, all.3, all.4, all.5, ap (beside e) all.6)))))
 
-    -- ---- the whole
+-- ---- the whole
 
-    module _ (status : ℕ) (input input2 : Supply) (old new : DepotAndOutput D) (err err2 : Output) (was : HasServedBy Happens status input input2 old new err err2) (sound : Sound new.depot) where
-      sound_mid : Sound was.mid.depot
-      sound_mid = sound_end status (length was.turns) was.rest input2 err err2 was.last was.mid new was.ended sound
+module _ {D E V : Type 0} (Happens : Format → Turn → Writing → DepotAndOutput D → DepotAndOutput D → Type 0)
+    (Others : Format → Turn → Writing → DepotAndOutput E → DepotAndOutput E → Type 0)
+    (Sound : D → Type 0) (Makes : V → Turn → DepotAndOutput E → DepotAndOutput E → Type 0) (Fits : (V → Type 0) → D → E → Type 0)
+    (follows : (format : Format) → Follows (Happens format) (Others format) Sound Makes Fits)
+    (status : ℕ) (input input2 : Supply) (old new : DepotAndOutput D) (err err2 : Output) (was : HasServedBy Happens status input input2 old new err err2) (sound : Sound new.depot) where
+  -- what goes beside the depot, with the same host and output
+  abbrev with_output : E → DepotAndOutput D → DepotAndOutput E
+  with_output e at = depot_and_output e at.host at.out
 
-      pub sound_first : Sound old.depot
-      sound_first = sound_all was.turns input was.rest old was.mid was.taken sound_mid
+  abbrev these : Follows (Happens was.format) (Others was.format) Sound Makes Fits
+  these = follows was.format
 
-      -- what goes beside the depot was served the same, and fits it after all turns, with what one of them made
-      pub record Both (e : E) : Type 0 where
-        pub after : E
-        pub served : HasServedBy Others status input input2 (beside e old) (beside after new) err err2
-        pub fits : Fits (λ v. OneIs (Makes v) Others served.turns input served.rest (beside e old) served.mid served.taken ⊎ LastIs (Makes v) served.last served.mid (beside after new)) new.depot after
+  sound_mid : Sound was.mid.depot
+  sound_mid = sound_end (Happens was.format) (Others was.format) Sound Makes Fits these status (length was.turns) was.rest input2 err err2 was.last was.mid new was.ended sound
 
-      some : {A B : Type 0} → (⊥ ⊎ A) ⊎ B → A ⊎ B
-      some (inl (inl none)) = absurd none
-      some (inl (inr a)) = inl a
-      some (inr b) = inr b
+  pub sound_first : Sound old.depot
+  sound_first = sound_all (Happens was.format) (Others was.format) Sound Makes Fits these was.turns was.begun was.rest old was.mid was.taken sound_mid
 
-      pub both : (e : E) → Fits (λ v. ⊥) old.depot e → Both e
-      both e fits =
-          let turns = along (λ v. ⊥) was.turns input was.rest old was.mid e fits was.taken sound_mid in
-          let mid = beside turns.after was.mid in
-          let Made = λ (v : V). ⊥ ⊎ OneIs (Makes v) Others was.turns input was.rest (beside e old) mid turns.taken in
-          let end = ends status (length was.turns) was.rest input2 err err2 Made was.mid new turns.after turns.fits sound was.last was.ended in
-          record {
-            after = end.after;
-            served = record { turns = was.turns; rest = was.rest; mid = mid; taken = turns.taken; last = was.last; ended = end.other; progress = was.progress };
-            fits = follows.widen (λ v. Made v ⊎ LastIs (Makes v) was.last mid (beside end.after new))
-                (λ v. OneIs (Makes v) Others was.turns input was.rest (beside e old) mid turns.taken ⊎ LastIs (Makes v) was.last mid (beside end.after new)) new.depot end.after (λ v made. some made) end.fits;
-          }
+  -- what goes beside the depot was served the same, and fits it after all turns, with what one of them made
+  pub record Both (e : E) : Type 0 where
+    pub after : E
+    pub served : HasServedBy Others status input input2 (with_output e old) (with_output after new) err err2
+    pub fits : Fits (λ v. OneIs (Makes v) (Others served.format) served.turns served.begun served.rest (with_output e old) served.mid served.taken ⊎ LastIs (Makes v) served.last served.mid (with_output after new)) new.depot after
+
+  some : {A B : Type 0} → (⊥ ⊎ A) ⊎ B → A ⊎ B
+  some (inl (inl none)) = absurd none
+  some (inl (inr a)) = inl a
+  some (inr b) = inr b
+
+  pub both : (e : E) → Fits (λ v. ⊥) old.depot e → Both e
+  both e fits =
+      let turns = along (Happens was.format) (Others was.format) Sound Makes Fits these (λ v. ⊥) was.turns was.begun was.rest old was.mid e fits was.taken sound_mid in
+      let mid = with_output turns.after was.mid in
+      let Made = λ (v : V). ⊥ ⊎ OneIs (Makes v) (Others was.format) was.turns was.begun was.rest (with_output e old) mid turns.taken in
+      let end = ends (Happens was.format) (Others was.format) Sound Makes Fits these status (length was.turns) was.rest input2 err err2 Made was.mid new turns.after turns.fits sound was.last was.ended in
+      record {
+        after = end.after;
+        served = record {
+          format = was.format;
+          turns = was.turns;
+          begun = was.begun;
+          rest = was.rest;
+          mid = mid;
+          taken = turns.taken;
+          last = was.last;
+          ended = end.other;
+          begins = was.begins;
+          progress = was.progress;
+        };
+        fits = these.widen (λ v. Made v ⊎ LastIs (Makes v) was.last mid (with_output end.after new))
+            (λ v. OneIs (Makes v) (Others was.format) was.turns was.begun was.rest (with_output e old) mid turns.taken ⊎ LastIs (Makes v) was.last mid (with_output end.after new)) new.depot end.after (λ v made. some made) end.fits;
+      }

@@ -20,6 +20,7 @@ use Rattle.depot_batch.specs.Batch.{HasServed, MayLeaveIn}
 use Rattle.depot_batch.specs.Batch as batch
 use Rattle.depot_batch.specs.Effects.{DepotAndOutput, HasHappened, MayMakeAll, depot_and_output}
 use Rattle.depot_batch.specs.Turns.{Alone, Broken, Together, Turn, Whole, Withdrawn, Writing}
+use Rattle.depot_batch.specs.declared.format.Format.{Format}
 use Rattle.depot_batch.specs.declared.asked.Asked.TheVariants.{Reply as ToReply, Export as IntoFile}
 use Rattle.depot_batch.proofs.Grouping.{as_many}
 use Rattle.depot.specs.Batches.{Batch, Did, Happens, HasEnded, IsKept, IsServed, MakeAll, MakesIn, MakesOf}
@@ -65,17 +66,17 @@ module _ {D : Type 0} (g : Ghosts D) where
       (one.1, (may.0, may.1, (one.0, one.2)), one.3)
 
   -- what a turn makes of it
-  made : (name : Text) (turn : Turn) (writing : Writing) (before : Entries) (old new : DepotAndOutput (Held (FileStore D g))) (trees : Trees) → Shows g before old.depot → HasCleanDisk (file_state new.depot)
-      → HasHappened (batch.Did over_files) name turn writing old new → MayLeaveIn turn (file_state old.depot) old.host new.host trees
+  made : (name : Text) (format : Format) (turn : Turn) (writing : Writing) (before : Entries) (old new : DepotAndOutput (Held (FileStore D g))) (trees : Trees) → Shows g before old.depot → HasCleanDisk (file_state new.depot)
+      → HasHappened (batch.Did over_files) name format turn writing old new → MayLeaveIn turn (file_state old.depot) old.host new.host trees
       → (held : Entries) × MakesIn turn old.host new.host before held × IsStored trees held
-  made name (Alone line outcome) writing before old new trees shows clean it (ToReply command, is, (octets, read, may)) =
+  made name format (Alone line outcome) writing before old new trees shows clean it (ToReply command, is, (octets, read, may)) =
       let can = left_by (request_command (on_depot command) octets) (file_state old.depot) trees may in
       let one = can.1 before (shows can.0).0 in
       (one.1, (ToReply command, is, (octets, read, (one.0, one.2))), one.3)
-  made name (Alone line outcome) writing before old new trees shows clean it (IntoFile export, is, may) = absurd may
-  made name (Together lines) writing before old new trees shows clean it may = made_together lines before old.depot old.host new.host trees shows (inl (it.done clean).0) may
-  made name (Withdrawn lines) Whole before old new trees shows clean it may = made_together lines before old.depot old.host new.host trees shows (inr it.some) may
-  made name (Withdrawn lines) Broken before old new trees shows clean it may = absurd it
+  made name format (Alone line outcome) writing before old new trees shows clean it (IntoFile export, is, may) = absurd may
+  made name format (Together lines) writing before old new trees shows clean it may = made_together lines before old.depot old.host new.host trees shows (inl (it.done clean).0) may
+  made name format (Withdrawn lines) Whole before old new trees shows clean it may = made_together lines before old.depot old.host new.host trees shows (inr it.some) may
+  made name format (Withdrawn lines) Broken before old new trees shows clean it may = absurd it
 
   -- a turn was had, which may have made this, and the depot is at the state after it
   tracked : (Made Makes : Entries × Entries → Type 0) (before after : Entries) (old new : Held (FileStore D g)) (May : Trees → Type 0) → ((file : D) → g.may_leave file (g.seen file))
@@ -106,20 +107,20 @@ module _ {D : Type 0} (g : Ghosts D) where
 
     module _ (name : Text) where
       -- what happens in a turn happens to the state, too
-      follows : Follows (batch.Happens over_files name) (Happens left name) Sound MakesBeside Track
-      follows = record {
+      follows : (format : Format) → Follows (batch.Happens over_files name format) (Happens left name format) Sound MakesBeside Track
+      follows format = record {
         sound = λ turn writing old new it sound.
             (omega (arith, it.outlasts.clean, sound.0), fewer g (file_state old.depot).faults (file_state new.depot).faults left it.outlasts.counts sound.1);
         widen = widen;
         step = λ Made turn writing old new before track sound it.
-            let one = turn_leads (batch.Did over_files) (Did left) old new before (effect_leads g left old.depot new.depot before track.works sound.0 it.outlasts.counts sound.1) name turn writing it.come in
+            let one = turn_leads (batch.Did over_files) (Did left) old new before (effect_leads g left old.depot new.depot before track.works sound.0 it.outlasts.counts sound.1) name format turn writing it.come in
             let was = depot_and_output before old.host old.out in
             let is = depot_and_output one.after new.host new.out in
             record {
               after = one.after;
               other = one.is;
               fits = tracked Made (λ v. MakesBeside v turn was is) before one.after old.depot new.depot (MayLeaveIn turn (file_state old.depot) old.host new.host) stays track one.fits sound.0 it.outlasts
-                  (λ trees may. let held = made name turn writing before old new trees track.works.shows sound.0 it.come may in (held.0, (refl, held.1), held.2));
+                  (λ trees may. let held = made name format turn writing before old new trees track.works.shows sound.0 it.come may in (held.0, (refl, held.1), held.2));
             };
       }
 

@@ -18,9 +18,11 @@ use Rattle.depot_cli.specs.Requests.{on_depot, request_command}
 use Rattle.depot_batch.specs.Asked.{Text}
 use Rattle.depot_batch.specs.Batch as batch
 use Rattle.depot_batch.specs.Effects.{Accepted, AcceptedAll, Declined, DepotAndOutput, Effect, HasCome, HasHappened, IsDone, IsRefused, NotAsked, Unchanged, depot_and_output}
+use Rattle.depot_batch.specs.Said.{Said}
 use Rattle.depot_batch.specs.Turns.{Alone, Broken, Together, Turn, Whole, Withdrawn, Writing}
 use Rattle.depot_batch.specs.declared.asked.Asked.{Asked}
 use Rattle.depot_batch.specs.declared.asked.Asked.TheVariants.{Reply as ToReply, Export as IntoFile}
+use Rattle.depot_batch.specs.declared.format.Format.{Format}
 use Rattle.depot_batch.specs.declared.outcome.Outcome.{Outcome}
 use Rattle.depot_batch.specs.declared.outcome.Outcome.TheVariants.{Done, Refused, Wrong}
 use Rattle.depot.specs.Batches.{Did}
@@ -41,11 +43,11 @@ so one more = record { after = one.after; is = more one.after one.is; fits = one
 -- If each effect leads to another, so does what comes of a line.
 module _ {A : Type 0} {One : Effect → Type 0} {Other : A → Effect → Type 0} {Fits : A → Type 0}
     (leads : (effect : Effect) → One effect → Fitting Fits (λ after. Other after effect)) (name : Text) (host host2 : HostState) where
-  done_leads : (asked : Asked) (text : List ℕ) → IsDone One name asked text host host2 → Fitting Fits (λ after. IsDone (Other after) name asked text host host2)
-  done_leads (ToReply command) text done =
+  done_leads : (asked : Asked) (said : Said) → IsDone One name asked said host host2 → Fitting Fits (λ after. IsDone (Other after) name asked said host host2)
+  done_leads (ToReply command) said done =
       let answered = done.2 in
       so (leads (Accepted (request_command (on_depot command) done.0) answered.0) answered.1) (λ after is. (done.0, done.1, (answered.0, is, answered.2)))
-  done_leads (IntoFile export) text done =
+  done_leads (IntoFile export) said done =
       let made = done.1 in
       so (leads (Accepted (Exports export.user.now export.number export.encoding) (Written made.0)) made.2) (λ after is. (done.0, (made.0, made.1, is)))
 
@@ -59,27 +61,28 @@ module _ {A : Type 0} {One : Effect → Type 0} {Other : A → Effect → Type 0
     | inr asked ↦ so (leads (Declined (Exports export.user.now export.number export.encoding) refusal) asked.2) (λ after is. inr (asked.0, asked.1, is))
   ]
 
-  come_leads : (line : Text) (outcome : Outcome) (text : List ℕ) → HasCome One name line outcome text host host2 → Fitting Fits (λ after. HasCome (Other after) name line outcome text host host2)
-  come_leads line Done text come = so (done_leads come.0 text come.2) (λ after is. (come.0, come.1, is))
-  come_leads line (Refused refusal) text come = elim come.1 [
+  come_leads : (line : Text) (outcome : Outcome) (said : Said) → HasCome One name line outcome said host host2 → Fitting Fits (λ after. HasCome (Other after) name line outcome said host host2)
+  come_leads line Done said come = so (done_leads come.0 said come.2) (λ after is. (come.0, come.1, is))
+  come_leads line (Refused refusal) said come = elim come.1 [
     | inl idle ↦ let still = idle.1 in so (leads NotAsked still.0) (λ after is. (come.0, inl (idle.0, (is, still.1))))
     | inr asked ↦ so (refused_leads asked.0 refusal asked.2) (λ after is. (come.0, inr (asked.0, asked.1, is)))
   ]
-  come_leads line Wrong text come = let still = come.3 in so (leads NotAsked still.0) (λ after is. (come.0, come.1, come.2, (is, still.1)))
+  come_leads line Wrong said come = let still = come.3 in so (leads NotAsked still.0) (λ after is. (come.0, come.1, come.2, (is, still.1)))
 
 -- so does what happens in a turn
 pub turn_leads : {A B : Type 0} (One : B → B → Effect → Type 0) (Other : A → A → Effect → Type 0) {Fits : A → Type 0} (old new : DepotAndOutput B) (before : A)
-    → ((effect : Effect) → One old.depot new.depot effect → Fitting Fits (λ after. Other before after effect)) → (name : Text) (turn : Turn) (writing : Writing)
-    → HasHappened One name turn writing old new
-    → Fitting Fits (λ after. HasHappened Other name turn writing (depot_and_output before old.host old.out) (depot_and_output after new.host new.out))
-turn_leads One Other old new before leads name (Alone line outcome) writing it =
-    so (come_leads leads name old.host new.host line outcome it.text it.come) (λ after is. record { text = it.text; come = is; written = it.written })
-turn_leads One Other old new before leads name (Together lines) writing it =
+    → ((effect : Effect) → One old.depot new.depot effect → Fitting Fits (λ after. Other before after effect)) → (name : Text) (format : Format) (turn : Turn) (writing : Writing)
+    → HasHappened One name format turn writing old new
+    → Fitting Fits (λ after. HasHappened Other name format turn writing (depot_and_output before old.host old.out) (depot_and_output after new.host new.out))
+turn_leads One Other old new before leads name format (Alone line outcome) writing it =
+    so (come_leads leads name old.host new.host line outcome it.said it.come) (λ after is. record { said = it.said; come = is; wording = it.wording; suits = it.suits; written = it.written })
+turn_leads One Other old new before leads name format (Together lines) writing it =
     so (leads (AcceptedAll it.commands (map Listed it.filed)) it.done)
-    (λ after is. record { few = it.few; commands = it.commands; files = it.files; filed = it.filed; done = is; written = it.written })
-turn_leads One Other old new before leads name (Withdrawn lines) Whole it =
+    (λ after is.
+    record { few = it.few; commands = it.commands; files = it.files; filed = it.filed; done = is; wording = it.wording; suits = it.suits; written = it.written })
+turn_leads One Other old new before leads name format (Withdrawn lines) Whole it =
     so (leads Unchanged it.unchanged) (λ after is. record { some = it.some; few = it.few; files = it.files; unchanged = is; out = it.out })
-turn_leads One Other old new before leads name (Withdrawn lines) Broken it = absurd it
+turn_leads One Other old new before leads name format (Withdrawn lines) Broken it = absurd it
 
 -- ---- from the store to the state
 

@@ -15,6 +15,7 @@ use Rattle.depot_jobs.specs.Jobs.{HostAndOutputs}
 use Rattle.depot_batch.specs.Asked.{Text}
 use Rattle.depot_batch.specs.Effects.{Accepted, AcceptedAll, Declined, DepotAndOutput, Effect, HasHappened, MayMakeIn, NotAsked, Unchanged, depot_and_output}
 use Rattle.depot_batch.specs.Turns.{AreTakenBy, HasServedBy, Turn, Writing}
+use Rattle.depot_batch.specs.declared.format.Format.{Format}
 use Rattle.depot.specs.Ending.{EndsSo, IsRefusal, IsUnopened}
 
 -- ---- turns, by the state that the depot stands for
@@ -30,7 +31,7 @@ module _ {D : Type 0} {g : Ghosts D} (left : Result (Files D) (FileStore D g)) w
   Did before after (Declined command refusal) = IsRefusal left command before refusal × (after ≡ before)
 
   -- what happens in a turn
-  abbrev pub Happens : Text → Turn → Writing → DepotAndOutput Entries → DepotAndOutput Entries → Type 0
+  abbrev pub Happens : Text → Format → Turn → Writing → DepotAndOutput Entries → DepotAndOutput Entries → Type 0
   Happens = HasHappened Did
 
 -- ---- what a crash may find
@@ -93,7 +94,7 @@ abbrev pub IsKept : {D : Type 0} {g : Ghosts D} (it : Batch) (left : Result (Fil
     → IsServed it left before after → Entries → Type 0
 IsKept it left before after served held =
     (held ≡ after)
-    ⊎ (OneIs (MakesOf after held) (Happens left it.name) served.turns it.input served.rest
+    ⊎ (OneIs (MakesOf after held) (Happens left it.name served.format) served.turns served.begun served.rest
     (depot_and_output before it.old.host it.old.out) served.mid served.taken
     ⊎ LastIs (MakesOf after held) served.last served.mid (depot_and_output after it.new.host it.new.out))
 

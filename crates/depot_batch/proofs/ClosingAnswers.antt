@@ -28,6 +28,7 @@ use Rattle.depot_cli.specs.Tasks.{HasDone}
 use Rattle.depot_cli.specs.declared.entries.Detail.TheVariants.{Brief, Full}
 use Rattle.depot_batch.specs.Batch.{Did}
 use Rattle.depot_batch.specs.Effects.{DepotAndOutput, HasCome, IsDone}
+use Rattle.depot_batch.specs.Said.{Said, lines_in}
 use Rattle.depot_batch.specs.Asked.{Text, wrong_line}
 use Rattle.depot_batch.specs.Closings.{has_closing}
 use Rattle.depot_batch.specs.declared.asked.Asked.{Asked}
@@ -189,19 +190,19 @@ wrong_closes_none faults.Encoding = refl
 -- ---- answers
 
 module _ {S : Type 0} (g : Ghosts S) where
-  done_closes_none : (name : List ℕ) (asked : Asked) (text : List ℕ) (old new : DepotAndOutput (Held S)) (before : Entries)
-      → IsDone (Did g old.depot new.depot) name asked text old.host new.host → HasCleanDisk (state g new.depot) → Stands (state g old.depot).now before
-      → HavePlainMedia before → has_closing true text ≡ false
-  done_closes_none name (Reply command) text old new before done clean stands plain =
+  done_closes_none : (name : List ℕ) (asked : Asked) (said : Said) (old new : DepotAndOutput (Held S)) (before : Entries)
+      → IsDone (Did g old.depot new.depot) name asked said old.host new.host → HasCleanDisk (state g new.depot) → Stands (state g old.depot).now before
+      → HavePlainMedia before → has_closing true (lines_in said) ≡ false
+  done_closes_none name (Reply command) said old new before done clean stands plain =
       let answered = done.2 in
-      ap (has_closing true) answered.2
+      ap (λ (x : Said). has_closing true (lines_in x)) answered.2
       ∙ replied command done.0 answered.0 (state g old.depot) (state g new.depot) before answered.1 clean stands plain
-  done_closes_none name (IntoFile export) text old new before done clean stands plain =
-      ap (has_closing true) done.0 ∙ numbered_safe (codes "exported ") export.number (refl, refl)
+  done_closes_none name (IntoFile export) said old new before done clean stands plain =
+      ap (λ (x : Said). has_closing true (lines_in x)) done.0 ∙ numbered_safe (codes "exported ") export.number (refl, refl)
 
-  pub closes_none : (name octets : List ℕ) (outcome : Outcome) (text : List ℕ) (old new : DepotAndOutput (Held S)) → HasCome (Did g old.depot new.depot) name octets outcome text old.host new.host
-      → HasCleanDisk (state g new.depot) → (before : Entries) → Stands (state g old.depot).now before → HavePlainMedia before → has_closing true text ≡ false
-  closes_none name octets Done text old new come clean before stands plain =
-      done_closes_none name come.0 text old new before come.2 clean stands plain
-  closes_none name octets (Refused refusal) text old new come clean before stands plain = ap (has_closing true) come.0 ∙ refused_closes_none refusal
-  closes_none name octets Wrong text old new come clean before stands plain = ap (has_closing true) come.2 ∙ wrong_closes_none come.0
+  pub closes_none : (name octets : List ℕ) (outcome : Outcome) (said : Said) (old new : DepotAndOutput (Held S)) → HasCome (Did g old.depot new.depot) name octets outcome said old.host new.host
+      → HasCleanDisk (state g new.depot) → (before : Entries) → Stands (state g old.depot).now before → HavePlainMedia before → has_closing true (lines_in said) ≡ false
+  closes_none name octets Done said old new come clean before stands plain =
+      done_closes_none name come.0 said old new before come.2 clean stands plain
+  closes_none name octets (Refused refusal) said old new come clean before stands plain = ap (λ (x : Said). has_closing true (lines_in x)) come.0 ∙ refused_closes_none refusal
+  closes_none name octets Wrong said old new come clean before stands plain = ap (λ (x : Said). has_closing true (lines_in x)) come.2 ∙ wrong_closes_none come.0

@@ -18,9 +18,11 @@ use Rattle.depot_cli.specs.declared.task.WithReply.TheVariants.{FromFile}
 use Rattle.refusals.specs.declared.refusal.Refusal.{Refusal}
 use Rattle.depot_batch.specs.Batch.{AreCallsIn, AreCallsOf, AreTaken, Did, IsCallFor, IsMadeAtOne}
 use Rattle.depot_batch.specs.Effects.{AreDeliveries, DepotAndOutput, HasCome, HasHappened, IsAsked, IsDone, IsRefused}
+use Rattle.depot_batch.specs.Said.{Said}
 use Rattle.depot_batch.specs.Turns.{Alone, Together, Turn, Whole, Withdrawn, done_in}
 use Rattle.depot_batch.specs.declared.asked.Asked.{Asked}
 use Rattle.depot_batch.specs.declared.asked.Asked.TheVariants.{Reply, Export as IntoFile}
+use Rattle.depot_batch.specs.declared.format.Format.{Format}
 use Rattle.depot_batch.specs.declared.outcome.Outcome.{Outcome}
 use Rattle.depot_batch.specs.declared.outcome.Outcome.TheVariants.{Done, Refused, Wrong}
 
@@ -96,11 +98,11 @@ module _ {S : Type 0} (g : Ghosts S) where
 
   module _ (name line : List ℕ) (old new : Held S) (host host2 : HostState) (before : Entries) (clean : HasCleanDisk (state g new))
       (given : IsTrue (state g old).is_open → Stands (state g old).now before) where
-    done_went : (asked : Asked) (text : List ℕ) → IsAsked line asked → IsDone (Did g old new) name asked text host host2 → Went name (line ∷ []) host before (state g new)
-    done_went (Reply command) text is done =
+    done_went : (asked : Asked) (said : Said) → IsAsked line asked → IsDone (Did g old new) name asked said host host2 → Went name (line ∷ []) host before (state g new)
+    done_went (Reply command) said is done =
         let answered = done.2 in
         did name line (Reply command) (request_command (on_depot command) done.0) answered.0 host host2 (state g old) (state g new) before is (done.0, done.1, answered.0, refl) (answered.1 clean) given
-    done_went (IntoFile export) text is done =
+    done_went (IntoFile export) said is done =
         let made = done.1 in
         did name line (IntoFile export) (Exports export.user.now export.number export.encoding) (Written made.0) host host2 (state g old) (state g new) before is (made.0, made.1, refl) (made.2 clean) given
 
@@ -116,17 +118,17 @@ module _ {S : Type 0} (g : Ghosts S) where
 
   module _ (name : List ℕ) (old new : DepotAndOutput (Held S)) (before : Entries) (clean : HasCleanDisk (state g new.depot))
       (given : IsTrue (state g old.depot).is_open → Stands (state g old.depot).now before) where
-    come_went : (line : List ℕ) (outcome : Outcome) (text : List ℕ) → HasCome (Did g old.depot new.depot) name line outcome text old.host new.host → Went name (done_in (Alone line outcome)) old.host before (state g new.depot)
-    come_went line Done text come = done_went name line old.depot new.depot old.host new.host before clean given come.0 text come.1 come.2
-    come_went line (Refused refusal) text come = elim come.1 [
+    come_went : (line : List ℕ) (outcome : Outcome) (said : Said) → HasCome (Did g old.depot new.depot) name line outcome said old.host new.host → Went name (done_in (Alone line outcome)) old.host before (state g new.depot)
+    come_went line Done said come = done_went name line old.depot new.depot old.host new.host before clean given come.0 said come.1 come.2
+    come_went line (Refused refusal) said come = elim come.1 [
       | inl idle ↦ let still = idle.1 in same name old.host old.depot new.depot before still.0 given
       | inr asked ↦ refused_went name line old.depot new.depot old.host new.host before clean given asked.0 refusal asked.2
     ]
-    come_went line Wrong text come = let still = come.3 in same name old.host old.depot new.depot before still.0 given
+    come_went line Wrong said come = let still = come.3 in same name old.host old.depot new.depot before still.0 given
 
-    turn_went : (turn : Turn) → HasHappened (Did g) name turn Whole old new → Went name (done_in turn) old.host before (state g new.depot)
-    turn_went (Alone line outcome) happens = come_went line outcome happens.text happens.come
-    turn_went (Together lines) happens =
+    turn_went : (format : Format) (turn : Turn) → HasHappened (Did g) name format turn Whole old new → Went name (done_in turn) old.host before (state g new.depot)
+    turn_went format (Alone line outcome) happens = come_went line outcome happens.said happens.come
+    turn_went format (Together lines) happens =
         let does = happens.done clean in
         let done = does.1 before (given does.0) in
         record {
@@ -136,24 +138,24 @@ module _ {S : Type 0} (g : Ghosts S) where
           steps = done.1.steps;
           stands = λ is_open. (done.2.stands is_open).0;
         }
-    turn_went (Withdrawn lines) happens = unchanged name old.host (state g old.depot) (state g new.depot) before (happens.unchanged clean) given
+    turn_went format (Withdrawn lines) happens = unchanged name old.host (state g old.depot) (state g new.depot) before (happens.unchanged clean) given
 
   -- a disk that is clean after turns was clean before them
-  clean_all : (name : List ℕ) (turns : List Turn) (input rest : Supply) (old new : DepotAndOutput (Held S)) → AreTaken g name turns input rest old new → HasCleanDisk (state g new.depot)
+  clean_all : (name : List ℕ) (format : Format) (turns : List Turn) (input rest : Supply) (old new : DepotAndOutput (Held S)) → AreTaken g name format turns input rest old new → HasCleanDisk (state g new.depot)
       → HasCleanDisk (state g old.depot)
-  clean_all name [] input rest old new are clean = subst (λ (o : DepotAndOutput (Held S)). HasCleanDisk (state g o.depot)) are.1 clean
-  clean_all name (turn ∷ turns) input rest old new are clean =
-      clean_before (state g old.depot) (state g are.1.depot) are.3.outlasts (clean_all name turns are.0 rest are.1 new are.5 clean)
+  clean_all name format [] input rest old new are clean = subst (λ (o : DepotAndOutput (Held S)). HasCleanDisk (state g o.depot)) are.1 clean
+  clean_all name format (turn ∷ turns) input rest old new are clean =
+      clean_before (state g old.depot) (state g are.1.depot) are.3.outlasts (clean_all name format turns are.0 rest are.1 new are.5 clean)
 
-  pub turns_went : (name : List ℕ) (turns : List Turn) (input rest : Supply) (old new : DepotAndOutput (Held S)) (before : Entries) (taken : AreTaken g name turns input rest old new)
+  pub turns_went : (name : List ℕ) (format : Format) (turns : List Turn) (input rest : Supply) (old new : DepotAndOutput (Held S)) (before : Entries) (taken : AreTaken g name format turns input rest old new)
       → HasCleanDisk (state g new.depot) → (IsTrue (state g old.depot).is_open → Stands (state g old.depot).now before)
-      → (calls : List Call) × (after : Entries) × AreCallsIn g name turns input rest old new taken calls × AreSteps calls before after
+      → (calls : List Call) × (after : Entries) × AreCallsIn g name format turns input rest old new taken calls × AreSteps calls before after
       × (IsTrue (state g new.depot).is_open → Stands (state g new.depot).now after)
-  turns_went name [] input rest old new before are clean given =
+  turns_went name format [] input rest old new before are clean given =
       ([], before, refl, refl, subst (λ (o : DepotAndOutput (Held S)). IsTrue (state g o.depot).is_open → Stands (state g o.depot).now before) (sym are.1) given)
-  turns_went name (turn ∷ turns) input rest old new before are clean given =
-      let one = turn_went name old are.1 before (clean_all name turns are.0 rest are.1 new are.5 clean) given turn are.3.come in
-      let more = turns_went name turns are.0 rest are.1 new one.after are.5 clean one.stands in (
+  turns_went name format (turn ∷ turns) input rest old new before are clean given =
+      let one = turn_went name old are.1 before (clean_all name format turns are.0 rest are.1 new are.5 clean) given format turn are.3.come in
+      let more = turns_went name format turns are.0 rest are.1 new one.after are.5 clean one.stands in (
         one.calls ++ more.0,
         more.1,
         (one.calls, more.0, refl, one.are, more.2),
@@ -162,13 +164,13 @@ module _ {S : Type 0} (g : Ghosts S) where
       )
 
   -- what a crash leaves after turns
-  pub left_by_turns : (name : List ℕ) (turns : List Turn) (input rest : Supply) (old new : DepotAndOutput (Held S)) → AreTaken g name turns input rest old new → HasCleanDisk (state g new.depot)
-      → (trees : Trees) → (state g new.depot).may_leave trees → (state g old.depot).may_leave trees ⊎ IsMadeAtOne g name turns input old trees
-  left_by_turns name [] input rest old new are clean trees left = inl (subst (λ (o : DepotAndOutput (Held S)). (state g o.depot).may_leave trees) are.1 left)
-  left_by_turns name (turn ∷ turns) input rest old new are clean trees left =
+  pub left_by_turns : (name : List ℕ) (format : Format) (turns : List Turn) (input rest : Supply) (old new : DepotAndOutput (Held S)) → AreTaken g name format turns input rest old new → HasCleanDisk (state g new.depot)
+      → (trees : Trees) → (state g new.depot).may_leave trees → (state g old.depot).may_leave trees ⊎ IsMadeAtOne g name format turns input old trees
+  left_by_turns name format [] input rest old new are clean trees left = inl (subst (λ (o : DepotAndOutput (Held S)). (state g o.depot).may_leave trees) are.1 left)
+  left_by_turns name format (turn ∷ turns) input rest old new are clean trees left =
       let mid = are.1 in
-      elim (left_by_turns name turns are.0 rest mid new are.5 clean trees left) [
-        | inl before ↦ elim (are.3.outlasts.crash (clean_all name turns are.0 rest mid new are.5 clean) trees before) [
+      elim (left_by_turns name format turns are.0 rest mid new are.5 clean trees left) [
+        | inl before ↦ elim (are.3.outlasts.crash (clean_all name format turns are.0 rest mid new are.5 clean) trees before) [
           | inl was ↦ inl was
           | inr made ↦ inr (record {
             before = [];

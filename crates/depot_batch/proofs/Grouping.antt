@@ -13,7 +13,9 @@ use Rattle.depot_actions.specs.Deliveries.{DoesAll, MayLeaveAll, reply_of}
 use Rattle.depot_actions.specs.DepotState.{Command, Listed}
 use Rattle.depot_jobs.specs.Host.{HostState}
 use Rattle.depot_batch.specs.Batch.{Happens, MayLeaveIn}
-use Rattle.depot_batch.specs.Effects.{AreDeliveries, AreLookedUp, DepotAndOutput, HasWritten, IsDelivery, filed_text, most_together}
+use Rattle.depot_batch.specs.Effects.{AreDeliveries, AreLookedUp, DepotAndOutput, HasWritten, IsDelivery, most_together}
+use Rattle.depot_batch.specs.Said.{Suits, Wording, filed_in}
+use Rattle.depot_batch.specs.declared.format.Format.{Format}
 use Rattle.depot_batch.specs.Private.{IsPassedOver, command_of, filed_by, lines_of}
 use Rattle.depot_batch.specs.Turns.{Together, Whole, Withdrawn, Writing}
 use Rattle.depot_batch.specs.declared.mails.Mail.{Mail}
@@ -91,7 +93,7 @@ cut_some lines cut n k is count some all =
 -- ---- on a depot
 
 -- The lines were cut to as many as there are mails, all of whose files were read, and the depot was asked for them.
-module _ {S : Type 0} (g : Ghosts S) {lines shown cut : List (Vec ℕ Global)} {n : ℕ} {mails mails2 : List Mail} (name : List ℕ) (old new : DepotAndOutput (Held S))
+module _ {S : Type 0} (g : Ghosts S) {lines shown cut : List (Vec ℕ Global)} {n : ℕ} {mails mails2 : List Mail} (name : List ℕ) (format : Format) (old new : DepotAndOutput (Held S))
     (is : cut ≡ take n lines) (count : n ≡ length mails) (same : shown ≡ lines) (same2 : mails2 ≡ mails) (few : length (lines_of lines) ≤ most_together)
     (files : AreDeliveries (take (length mails) (lines_of shown)) (map command_of mails) old.host new.host)
     (survives : Survives (state g old.depot) (state g new.depot) (MayLeaveAll (map command_of mails2) (state g old.depot))) where
@@ -107,7 +109,7 @@ module _ {S : Type 0} (g : Ghosts S) {lines shown cut : List (Vec ℕ Global)} {
       (subst (λ (ms : List Mail). Survives (state g old.depot) (state g new.depot) (MayLeaveAll (map command_of ms) (state g old.depot))) same2 survives)
 
   -- they were withdrawn since it refused them
-  pub withdrawn_late : 0 < length mails → (HasCleanDisk (state g new.depot) → LeavesUnchanged (state g old.depot) (state g new.depot)) → new.out ≡ old.out → Happens g name (Withdrawn (lines_of cut)) Whole old new
+  pub withdrawn_late : 0 < length mails → (HasCleanDisk (state g new.depot) → LeavesUnchanged (state g old.depot) (state g new.depot)) → new.out ≡ old.out → Happens g name format (Withdrawn (lines_of cut)) Whole old new
   withdrawn_late some unchanged out = record {
     come = record {
       some = omega (arith, some, length-map mails command_of, as_many (lines_of cut) (map command_of mails) old.host new.host cut_files);
@@ -122,14 +124,17 @@ module _ {S : Type 0} (g : Ghosts S) {lines shown cut : List (Vec ℕ Global)} {
   -- they were done
   pub answered_together : (writing : Writing) (filed : List (List Listing))
       → (HasCleanDisk (state g new.depot) → DoesAll (map command_of mails2) (map Listed filed) (state g old.depot) (state g new.depot))
-      → HasWritten writing (flat_map filed_text filed) old.out new.out → Happens g name (Together (lines_of cut)) writing old new
-  answered_together writing filed done written = record {
+      → (wording : Wording) → Suits format wording → HasWritten writing (flat_map (filed_in wording) filed) old.out new.out
+      → Happens g name format (Together (lines_of cut)) writing old new
+  answered_together writing filed done wording suits written = record {
     come = record {
       few = cut_few;
       commands = map command_of mails;
       files = cut_files;
       filed = filed;
       done = subst (λ (ms : List Mail). HasCleanDisk (state g new.depot) → DoesAll (map command_of ms) (map Listed filed) (state g old.depot) (state g new.depot)) same2 done;
+      wording = wording;
+      suits = suits;
       written = written;
     };
     outlasts = lasts;

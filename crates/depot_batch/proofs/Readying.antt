@@ -122,9 +122,10 @@ shown_more octets lines lines2 line front rest later more is parts before =
     ap (λ (ls : List (Vec ℕ Global)). concat (lines_of ls)) more ∙ octets_both lines (line ∷ []) ∙ ap (λ o. concat (lines_of lines) ++ o) (append-nil line.items ∙ is) in
     before ∙ ap (λ o. concat (lines_of lines) ++ o) parts ∙ sym (append_assoc (concat (lines_of lines)) front later) ∙ ap (λ o. o ++ later) (sym joined)
 
-pub whole_more : (lines lines2 : List (Vec ℕ Global)) (line : Vec ℕ Global) → lines2 ≡ lines ++ line ∷ [] → IsLine line.items → All IsLine (lines_of lines) → All IsLine (lines_of lines2)
-whole_more lines lines2 line more is whole =
-    subst (All IsLine) (sym (ap lines_of more ∙ map-append (λ (l : Vec ℕ Global). l.items) lines (line ∷ []))) (All-push IsLine (lines_of lines) line.items whole is)
+-- all of them are so
+pub all_more : (Is : List ℕ → Type 0) (lines lines2 : List (Vec ℕ Global)) (line : Vec ℕ Global) → lines2 ≡ lines ++ line ∷ [] → Is line.items → All Is (lines_of lines) → All Is (lines_of lines2)
+all_more Is lines lines2 line more is are =
+    subst (All Is) (sym (ap lines_of more ∙ map-append (λ (l : Vec ℕ Global). l.items) lines (line ∷ []))) (All-push Is (lines_of lines) line.items are is)
 
 -- ---- what a reader shows
 

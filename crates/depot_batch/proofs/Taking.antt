@@ -10,6 +10,7 @@ use Rattle.devices.specs.Supply.{HasGiven, Supply}
 use Rattle.depot_batch.specs.Batch.{AreTaken}
 use Rattle.depot_batch.specs.Effects.{DepotAndOutput}
 use Rattle.depot_batch.specs.Lines.{HasShown}
+use Rattle.depot_batch.specs.declared.format.Format.{Format}
 use Rattle.depot_batch.specs.Turns.{Alone, Takes, Together, Turn, Withdrawn, answered_in, lines_answered}
 use Rattle.depot_batch.proofs.Batches.{counted_both}
 
@@ -36,10 +37,10 @@ given_in (Alone line outcome) s0 s1 takes = subst (λ octets. HasGiven octets s0
 given_in (Together lines) s0 s1 takes = takes.1
 given_in (Withdrawn lines) s0 s1 takes = given_nothing (concat lines) s0 s1 takes.1
 
-pub all_taken : {S : Type 0} (g : Ghosts S) (name : List ℕ) (turns : List Turn) (input rest : Supply) (old new : DepotAndOutput (Held S)) → AreTaken g name turns input rest old new
+pub all_taken : {S : Type 0} (g : Ghosts S) (name : List ℕ) (format : Format) (turns : List Turn) (input rest : Supply) (old new : DepotAndOutput (Held S)) → AreTaken g name format turns input rest old new
     → HasGiven (concat (lines_answered turns)) input rest
-all_taken g name [] input rest old new are = subst (λ (s : Supply). HasGiven [] input s) (sym are.0) (given_none input)
-all_taken g name (turn ∷ turns) input rest old new are =
+all_taken g name format [] input rest old new are = subst (λ (s : Supply). HasGiven [] input s) (sym are.0) (given_none input)
+all_taken g name format (turn ∷ turns) input rest old new are =
     subst (λ octets. HasGiven octets input rest) (sym (concat-append (answered_in turn) (lines_answered turns)))
     (given_both input are.0 rest (concat (answered_in turn)) (concat (lines_answered turns)) (given_in turn input are.0 are.2)
-    (all_taken g name turns are.0 rest are.1 new are.5))
+    (all_taken g name format turns are.0 rest are.1 new are.5))

@@ -1,23 +1,31 @@
 -- Private: how the code answers a line.
-use Rattle.std.specs.Prelude.{◌≡◌, ℕ, List, [], ◌∷◌, ◌++◌, Some}
-use Rattle.std.specs.List.{All}
+use Rattle.std.specs.Prelude.{◌≡◌, ℕ, List, [], ◌∷◌, ◌++◌, Result, Some, codes, map}
+use Rattle.std.specs.List.{All, flat_map}
 use Rattle.std.specs.Str.{IsUtf8}
 use Rattle.sqlite_trees.specs.declared.store.Store.{Ghosts}
 use Rattle.sqlite.specs.Held.{Held, state}
 use Rattle.sqlite.specs.State.{Survives}
+use Rattle.devices.specs.Device.{HasPut, Output}
+use Rattle.part_store.specs.Entries.{Listing}
+use Rattle.part_store.specs.Standing.{listed}
 use Rattle.printing.specs.Printed.{refusal_line}
+use Rattle.serde_json.specs.Data.{Data, Members, member, no_members}
 use Rattle.depot_jobs.specs.Host.{HostState}
 use Rattle.depot_cli.specs.Printed.{text_in as reply_text}
+use Rattle.depot_cli.specs.declared.task.Reply.{Reply}
+use Rattle.depot_cli.specs.declared.task.Reply.TheVariants as replies
 use Rattle.refusals.specs.declared.refusal.Refusal.TheVariants.{Memory}
 use Rattle.depot_batch.specs.Asked.{wrong_line}
 use Rattle.depot_batch.specs.Batch.{Did, MayLeaveIn}
-use Rattle.depot_batch.specs.Effects.{Effect, HasCome, IsDone, IsRefused, IsWrong, closing, exported_text}
+use Rattle.depot_batch.specs.Effects.{Effect, HasCome, IsDone, IsRefused, IsWrong}
+use Rattle.depot_batch.specs.Said.{InFull, InLines, InShort, Said, Suits, Wording, closing, entries_members, exported_members, exported_text, fault_members, filed_in, lines_in, members_in as members_said, number_value, outcome_in, refusal_members, short_value, value_line, with_status}
 use Rattle.depot_batch.specs.Turns.{Alone}
 use Rattle.depot_batch.specs.Words.{words_of}
 use Rattle.depot_batch.specs.declared.answering.Answer.{Answer}
 use Rattle.depot_batch.specs.declared.answering.Answer.TheVariants.{Replied, Exported}
 use Rattle.depot_batch.specs.declared.asked.Asked.{Asked}
 use Rattle.depot_batch.specs.declared.asked.LineFault.TheVariants.{NotText}
+use Rattle.depot_batch.specs.declared.format.Format.{Format}
 use Rattle.depot_batch.specs.declared.line.Unasked.{Unasked}
 use Rattle.depot_batch.specs.declared.line.Unasked.TheVariants.{Wrong, NoMemory}
 use Rattle.depot_batch.specs.declared.outcome.Outcome.{Outcome}
@@ -48,6 +56,53 @@ outcome_of (reports.Wrong fault) = outcomes.Wrong
 abbrev pub answer_text : Report → List ℕ
 answer_text report = report_text report ++ closing (outcome_of report)
 
+-- what an object has for a reply beside the status
+abbrev pub reply_members_in : Reply → Members
+reply_members_in replies.Stored = no_members
+reply_members_in (replies.Filed rows) = entries_members (map listed rows.items)
+reply_members_in (replies.Listed rows) = entries_members (map listed rows.items)
+reply_members_in (replies.Removed number) = member (codes "removed") (number_value number) no_members
+reply_members_in (replies.Migrated count) = member (codes "migrated") (number_value count) no_members
+
+-- for an answer
+abbrev pub members_in : Answer → Members
+members_in (Replied reply) = reply_members_in reply
+members_in (Exported number) = exported_members number
+
+-- for a report
+abbrev pub report_members : Report → Members
+report_members (reports.Done answer) = members_in answer
+report_members (reports.Refused refusal) = refusal_members refusal
+report_members (reports.Wrong fault) = fault_members fault
+
+-- the object
+abbrev pub report_value : Report → Data
+report_value report = with_status (outcome_of report) (report_members report)
+
+-- a report, as it is written
+abbrev pub text_as : Wording → Report → List ℕ
+text_as InLines report = answer_text report
+text_as InFull report = value_line (report_value report)
+text_as InShort report = value_line (short_value (outcome_of report))
+
+-- a report was written in this format, or broke off
+pub record HasPutReport {A E : Type 0} (result : Result A E) (format : Format) (report : Report) (old new : Output) : Type 0 where
+  pub wording : Wording
+  pub suits : Suits format wording
+  pub put : HasPut result (text_as wording report) old new
+
+-- so were the answers to deliveries that filed these entries
+pub record HasPutFiled {A E : Type 0} (result : Result A E) (format : Format) (filed : List (List Listing)) (old new : Output) : Type 0 where
+  pub wording : Wording
+  pub suits : Suits format wording
+  pub put : HasPut result (flat_map (filed_in wording) filed) old new
+
+-- a report says this
+pub record Says (report : Report) (said : Said) : Type 0 where
+  pub outcome : outcome_of report ≡ outcome_in said
+  pub lines : report_text report ≡ lines_in said
+  pub members : report_members report ≡ members_said said
+
 -- ---- lines
 
 -- the words of a line were read
@@ -71,12 +126,14 @@ unasked_report NoMemory = reports.Refused Memory
 
 -- what came of what is asked, by what was done with a depot
 abbrev pub HasComeOf : (Effect → Type 0) → List ℕ → Asked → Report → HostState → HostState → Type 0
-HasComeOf Had name asked (reports.Done answer) host host2 = IsDone Had name asked (text_in answer) host host2
+HasComeOf Had name asked (reports.Done answer) host host2 = (said : Said) × Says (reports.Done answer) said × IsDone Had name asked said host host2
 HasComeOf Had name asked (reports.Refused refusal) host host2 = IsRefused Had name asked refusal host host2
 HasComeOf Had name asked (reports.Wrong fault) host host2 = ⊥
 
 module _ {S : Type 0} (g : Ghosts S) where
   -- what came of a line, and what a crash may leave of it
   pub record IsReportOn (name line : List ℕ) (report : Report) (old new : Held S) (host host2 : HostState) : Type 0 where
-    pub come : HasCome (Did g old new) name line (outcome_of report) (report_text report) host host2
+    pub said : Said
+    pub says : Says report said
+    pub come : HasCome (Did g old new) name line (outcome_of report) said host host2
     pub outlasts : Survives (state g old) (state g new) (MayLeaveIn (Alone line (outcome_of report)) (state g old) host host2)

@@ -21,6 +21,7 @@ use Rattle.depot_batch.specs.Asked.{Text}
 use Rattle.depot_batch.specs.Effects.{Accepted, AcceptedAll, Declined, DepotAndOutput, Effect, HasHappened, IsAsked, MayMakeIn, NotAsked, Unchanged, depot_and_output}
 use Rattle.depot_batch.specs.Turns.{AreTakenBy, HasServedBy, Turn, Writing, done_in}
 use Rattle.depot_batch.specs.declared.asked.Asked.{Asked}
+use Rattle.depot_batch.specs.declared.format.Format.{Format}
 use Rattle.depot_batch.specs.declared.asked.Asked.TheVariants.{Reply, Export as IntoFile}
 
 -- what a crash may leave of a turn that it couldn't leave before: what the turn makes of the store, with the host as it
@@ -40,23 +41,23 @@ module _ {S : Type 0} (g : Ghosts S) where
 
   -- What happens in a turn: this comes of it, and a crash may leave of the depot what it could have left before, or
   -- what the turn makes of it.
-  pub record Happens (name : Text) (turn : Turn) (writing : Writing) (old new : DepotAndOutput (Held S)) : Type 0 where
-    pub come : HasHappened Did name turn writing old new
+  pub record Happens (name : Text) (format : Format) (turn : Turn) (writing : Writing) (old new : DepotAndOutput (Held S)) : Type 0 where
+    pub come : HasHappened Did name format turn writing old new
     pub outlasts : Survives (state g old.depot) (state g new.depot) (MayLeaveIn turn (state g old.depot) old.host new.host)
 
   -- turns of a batch, one after another; in none was a line refused `Database`
-  abbrev pub AreTaken : Text → List Turn → Supply → Supply → DepotAndOutput (Held S) → DepotAndOutput (Held S) → Type 0
-  AreTaken name turns input rest old new = AreTakenBy (Happens name) turns input rest old new
+  abbrev pub AreTaken : Text → Format → List Turn → Supply → Supply → DepotAndOutput (Held S) → DepotAndOutput (Held S) → Type 0
+  AreTaken name format turns input rest old new = AreTakenBy (Happens name format) turns input rest old new
 
   -- the trees are what one of the turns makes, whole, of what the turns before it left
-  pub record IsMadeAtOne (name : Text) (turns : List Turn) (input : Supply) (old : DepotAndOutput (Held S)) (trees : Trees) : Type 0 where
+  pub record IsMadeAtOne (name : Text) (format : Format) (turns : List Turn) (input : Supply) (old : DepotAndOutput (Held S)) (trees : Trees) : Type 0 where
     pub before : List Turn
     pub turn : Turn
     pub later : List Turn
     pub are : turns ≡ before ++ turn ∷ later
     pub here : Supply
     pub mid : DepotAndOutput (Held S)
-    pub taken : AreTaken name before input here old mid
+    pub taken : AreTaken name format before input here old mid
     pub host : HostState
     pub made : MayLeaveIn turn (state g mid.depot) mid.host host trees
 
@@ -99,9 +100,9 @@ module _ {S : Type 0} (g : Ghosts S) where
   -- Calls do what the lines ask for that are answered as done in turns that were taken, each with the
   -- host as it was then.
   abbrev pub AreCallsIn :
-      (name : Text) (turns : List Turn) (input rest : Supply) (old new : DepotAndOutput (Held S))
-      → AreTaken g name turns input rest old new → List Call → Type 0
-  AreCallsIn name [] input rest old new taken calls = calls ≡ []
-  AreCallsIn name (turn ∷ turns) input rest old new taken calls =
+      (name : Text) (format : Format) (turns : List Turn) (input rest : Supply) (old new : DepotAndOutput (Held S))
+      → AreTaken g name format turns input rest old new → List Call → Type 0
+  AreCallsIn name format [] input rest old new taken calls = calls ≡ []
+  AreCallsIn name format (turn ∷ turns) input rest old new taken calls =
       (first later : List Call) × (calls ≡ first ++ later) × AreCallsOf name (done_in turn) first old.host
-      × AreCallsIn name turns taken.0 rest taken.1 new taken.5 later
+      × AreCallsIn name format turns taken.0 rest taken.1 new taken.5 later

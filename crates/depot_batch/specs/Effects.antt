@@ -1,7 +1,6 @@
 -- What the lines of a batch come to: by what is done with a depot, for whatever a depot is seen as, its store or the
 -- state that this stands for.
-use Rattle.std.specs.Prelude.{◌<◌, ◌≡◌, ◌≢◌, ◌⊎◌, ℕ, ◌≤◌, List, [], ◌∷◌, ◌++◌, None, Some, codes, length, map}
-use Rattle.std.specs.Fmt.{decimal}
+use Rattle.std.specs.Prelude.{◌<◌, ◌≡◌, ◌≢◌, ◌⊎◌, ℕ, ◌≤◌, List, [], ◌∷◌, ◌++◌, None, Some, length, map}
 use Rattle.std.specs.List.{All, flat_map}
 use Rattle.std.specs.Borrow.{Bor}
 use Rattle.std.specs.Str.{IsUtf8}
@@ -9,17 +8,15 @@ use Rattle.part_store.specs.Entries.{Listing}
 use Rattle.depot_actions.specs.DepotState.{Command, Export as Exports, Listed, Reply as DepotReply, Text as Written}
 use Rattle.devices.specs.Device.{HasBroken, HasTaken, Output}
 use Rattle.depot_jobs.specs.Host.{HasMade, HasNotMade, HostState, makes, with_call}
-use Rattle.printing.specs.Printed.{line, refusal_line}
 use Rattle.depot_jobs.specs.Inputs.{HasNotReadFile, HasReadFile, file_of}
-use Rattle.depot_cli.specs.Printed.{entries_text, reply_text}
 use Rattle.depot_cli.specs.Requests.{on_depot, request_command}
-use Rattle.depot_cli.specs.declared.entries.Detail.TheVariants.{Brief}
 use Rattle.depot_jobs.specs.Requests.{Request}
 use Rattle.depot_jobs.specs.declared.request.Deposit.TheVariants.{Message}
 use Rattle.depot_cli.specs.declared.task.WithReply.TheVariants.{FromFile}
 use Rattle.refusals.specs.declared.refusal.Refusal.{Refusal}
 use Rattle.refusals.specs.declared.refusal.Refusal.TheVariants.{Memory, Write}
-use Rattle.depot_batch.specs.Asked.{AskNothing, Asks, Text, wrong_line}
+use Rattle.depot_batch.specs.Asked.{AskNothing, Asks, Text}
+use Rattle.depot_batch.specs.Said.{OfExport, OfFault, OfRefusal, OfReply, Said, Suits, Wording, answer_in, filed_in}
 use Rattle.depot_batch.specs.Turns.{Alone, Broken, Together, Turn, Whole, Withdrawn, Writing}
 use Rattle.depot_batch.specs.Words.{words_of}
 use Rattle.depot_batch.specs.declared.asked.Asked.{Asked}
@@ -27,6 +24,7 @@ use Rattle.depot_batch.specs.declared.asked.Asked.TheVariants.{Reply, Export as 
 use Rattle.depot_batch.specs.declared.asked.Export.{Export}
 use Rattle.depot_batch.specs.declared.asked.LineFault.{LineFault}
 use Rattle.depot_batch.specs.declared.asked.LineFault.TheVariants as faults
+use Rattle.depot_batch.specs.declared.format.Format.{Format}
 use Rattle.depot_batch.specs.declared.outcome.Outcome.{Outcome}
 use Rattle.depot_batch.specs.declared.outcome.Outcome.TheVariants.{Done, Refused, Wrong}
 
@@ -49,20 +47,6 @@ IsWrong octets fault = (words : List Text) × HasWords octets words × AskNothin
 
 -- ---- what is answered
 
--- the line that ends an answer
-abbrev pub closing : Outcome → List ℕ
-closing Done = line (codes "= 0")
-closing (Refused refusal) = line (codes "= 1")
-closing Wrong = line (codes "= 2")
-
--- that an entry was exported
-abbrev pub exported_text : ℕ → List ℕ
-exported_text number = line (codes "exported " ++ decimal number)
-
--- the answer to a delivery that filed these entries
-abbrev pub filed_text : List Listing → List ℕ
-filed_text entries = entries_text Brief entries ++ closing Done
-
 -- an answer was written so
 abbrev pub HasWritten : Writing → List ℕ → Output → Output → Type 0
 HasWritten Whole = HasTaken
@@ -81,15 +65,15 @@ pub data Effect : Type 0 where
 
 -- This was done with a depot.
 module _ (Did : Effect → Type 0) where
-  -- it accepted a command, and this is printed of its reply
-  abbrev pub HasAnswered : Command → List ℕ → Type 0
-  HasAnswered command text = (reply : DepotReply) × Did (Accepted command reply) × (text ≡ reply_text command reply)
+  -- it accepted a command, and its reply is the answer
+  abbrev pub HasAnswered : Command → Said → Type 0
+  HasAnswered command said = (reply : DepotReply) × Did (Accepted command reply) × (said ≡ OfReply command reply)
 
-  -- the file of a request was read, and the depot did what is asked, with this text as the answer
-  abbrev pub HasReplied : Request → List ℕ → HostState → HostState → Type 0
-  HasReplied request text host host2 =
+  -- the file of a request was read, and the depot did what is asked, with this answer
+  abbrev pub HasReplied : Request → Said → HostState → HostState → Type 0
+  HasReplied request said host host2 =
       (octets : List ℕ) × HasReadFile (file_of request) octets host host2
-      × HasAnswered (request_command request octets) text
+      × HasAnswered (request_command request octets) said
 
   -- It was not read, and nothing was asked of the depot; or the depot refused what was asked.
   abbrev pub HasNotReplied : Request → Refusal → HostState → HostState → Type 0
@@ -111,10 +95,10 @@ module _ (Did : Effect → Type 0) where
       ⊎ ((refusal ≢ Write) × (host2 ≡ with_call (makes export.file.now name) host)
       × Did (Declined (Exports export.user.now export.number export.encoding) refusal))
 
-  -- what is asked was done, with this text as the answer
-  abbrev pub IsDone : Text → Asked → List ℕ → HostState → HostState → Type 0
-  IsDone name (Reply command) text host host2 = HasReplied (on_depot command) text host host2
-  IsDone name (IntoFile export) text host host2 = (text ≡ exported_text export.number) × HasExported name export host host2
+  -- what is asked was done, with this answer
+  abbrev pub IsDone : Text → Asked → Said → HostState → HostState → Type 0
+  IsDone name (Reply command) said host host2 = HasReplied (on_depot command) said host host2
+  IsDone name (IntoFile export) said host host2 = (said ≡ OfExport export.number) × HasExported name export host host2
 
   -- it was refused
   abbrev pub IsRefused : Text → Asked → Refusal → HostState → HostState → Type 0
@@ -125,15 +109,15 @@ module _ (Did : Effect → Type 0) where
   abbrev pub IsIdle : HostState → HostState → Type 0
   IsIdle host host2 = Did NotAsked × (host2 ≡ host)
 
-  -- what came of a line, and the text of its answer
-  abbrev pub HasCome : Text → List ℕ → Outcome → List ℕ → HostState → HostState → Type 0
-  HasCome name octets Done text host host2 = (asked : Asked) × IsAsked octets asked × IsDone name asked text host host2
-  HasCome name octets (Refused refusal) text host host2 =
-      (text ≡ refusal_line refusal)
+  -- what came of a line, and its answer
+  abbrev pub HasCome : Text → List ℕ → Outcome → Said → HostState → HostState → Type 0
+  HasCome name octets Done said host host2 = (asked : Asked) × IsAsked octets asked × IsDone name asked said host host2
+  HasCome name octets (Refused refusal) said host host2 =
+      (said ≡ OfRefusal refusal)
       × (((refusal ≡ Memory) × IsIdle host host2)
       ⊎ ((asked : Asked) × IsAsked octets asked × IsRefused name asked refusal host host2))
-  HasCome name octets Wrong text host host2 =
-      (fault : LineFault) × IsWrong octets fault × (text ≡ wrong_line fault) × IsIdle host host2
+  HasCome name octets Wrong said host host2 =
+      (fault : LineFault) × IsWrong octets fault × (said ≡ OfFault fault) × IsIdle host host2
 
 -- ---- lines together
 
@@ -186,21 +170,25 @@ depot_and_output depot host out = record { depot = depot; host = host; out = out
 
 -- What is done with a depot, by what it was and what it is then.
 module _ {D : Type 0} (Did : D → D → Effect → Type 0) where
-  -- a line was answered alone, by its text and what ends that
-  pub record IsAnsweredBy (writing : Writing) (name line : List ℕ) (outcome : Outcome) (old new : DepotAndOutput D) : Type 0 where
-    pub text : List ℕ
-    pub come : HasCome (Did old.depot new.depot) name line outcome text old.host new.host
-    pub written : HasWritten writing (text ++ closing outcome) old.out new.out
+  -- A line was answered alone. What happened doesn't depend on the format of the answer.
+  pub record IsAnsweredBy (format : Format) (writing : Writing) (name line : List ℕ) (outcome : Outcome) (old new : DepotAndOutput D) : Type 0 where
+    pub said : Said
+    pub come : HasCome (Did old.depot new.depot) name line outcome said old.host new.host
+    pub wording : Wording
+    pub suits : Suits format wording
+    pub written : HasWritten writing (answer_in wording said) old.out new.out
 
   -- Lines were done together, and answered: each asks for a delivery, the files were read in turn,
-  -- and the depot did all. Then the answers were written, in the lines' order.
-  pub record AreAnsweredBy (writing : Writing) (lines : List (List ℕ)) (old new : DepotAndOutput D) : Type 0 where
+  -- and the depot did all. Then the answers were written, in the lines' order, all in one way.
+  pub record AreAnsweredBy (format : Format) (writing : Writing) (lines : List (List ℕ)) (old new : DepotAndOutput D) : Type 0 where
     pub few : length lines ≤ most_together
     pub commands : List Command
     pub files : AreDeliveries lines commands old.host new.host
     pub filed : List (List Listing)
     pub done : Did old.depot new.depot (AcceptedAll commands (map Listed filed))
-    pub written : HasWritten writing (flat_map filed_text filed) old.out new.out
+    pub wording : Wording
+    pub suits : Suits format wording
+    pub written : HasWritten writing (flat_map (filed_in wording) filed) old.out new.out
 
   -- nothing came of lines that were to be done together: the depot is as it was, and nothing was written
   pub record AreWithdrawn (lines : List (List ℕ)) (old new : DepotAndOutput D) : Type 0 where
@@ -211,11 +199,11 @@ module _ {D : Type 0} (Did : D → D → Effect → Type 0) where
     pub out : new.out ≡ old.out
 
   -- what happened in a turn
-  abbrev pub HasHappened : Text → Turn → Writing → DepotAndOutput D → DepotAndOutput D → Type 0
-  HasHappened name (Alone line outcome) writing old new = IsAnsweredBy writing name line outcome old new
-  HasHappened name (Together lines) writing old new = AreAnsweredBy writing lines old new
-  HasHappened name (Withdrawn lines) Whole old new = AreWithdrawn lines old new
-  HasHappened name (Withdrawn lines) Broken old new = ⊥
+  abbrev pub HasHappened : Text → Format → Turn → Writing → DepotAndOutput D → DepotAndOutput D → Type 0
+  HasHappened name format (Alone line outcome) writing old new = IsAnsweredBy format writing name line outcome old new
+  HasHappened name format (Together lines) writing old new = AreAnsweredBy format writing lines old new
+  HasHappened name format (Withdrawn lines) Whole old new = AreWithdrawn lines old new
+  HasHappened name format (Withdrawn lines) Broken old new = ⊥
 
 -- ---- what a crash may leave
 

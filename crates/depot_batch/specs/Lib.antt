@@ -2,6 +2,7 @@ pub mod Words
 pub mod Asked
 pub mod Lines
 pub mod Turns
+pub mod Said
 pub mod Effects
 pub mod Batch
 pub mod Closings

@@ -18,6 +18,10 @@ use Rattle.refusals.specs.declared.refusal.Refusal.{Refusal}
 use Rattle.depot_batch.specs.declared.ahead.Ahead.{Ahead}
 use Rattle.depot_batch.specs.declared.ahead.Ahead.TheVariants.{Deliveries, Other, End}
 use Rattle.depot_batch.specs.declared.desk.Desk.{Desk}
+use Rattle.depot_batch.specs.declared.first.First.{First}
+use Rattle.depot_batch.specs.declared.first.First.TheVariants as firsts
+use Rattle.depot_batch.specs.declared.format.Format.{Format}
+use Rattle.depot_batch.specs.declared.format.Format.TheVariants.{Json, Plain}
 use Rattle.depot_batch.specs.declared.mails.Mail.{Mail}
 use Rattle.depot_batch.specs.declared.reading.Taken.{Taken}
 use Rattle.depot_batch.specs.declared.reading.Taken.TheVariants.{Line, Unfinished, Nothing}
@@ -27,7 +31,7 @@ use Rattle.depot_batch.specs.Asked.{Text}
 use Rattle.depot_batch.specs.Batch.{Happens}
 use Rattle.depot_batch.specs.Effects.{DepotAndOutput, IsUnread, depot_and_output, most_together}
 use Rattle.depot_batch.specs.Lines.{HasShown, HasTakenAll, IsLine, IsUnfinished}
-use Rattle.depot_batch.specs.Turns.{Alone, EndsBy, GoesOn, Takes, Together, Turn, Whole, Withdrawn}
+use Rattle.depot_batch.specs.Turns.{Alone, EndsBy, GoesOn, Takes, Together, Turn, Whole, Withdrawn, json_line}
 use Rattle.depot_batch.specs.Words.{texts_of}
 
 -- what was taken of an input next: a line; what it ends with; or nothing, at its end
@@ -66,6 +70,7 @@ lines_of lines = map (λ line. line.items) lines
 -- octets begin with these lines, which are few enough to be done together
 pub record AreShown (lines : List (List ℕ)) (octets : List ℕ) : Type 0 where
   pub whole : All IsLine lines
+  pub others : All (λ line. line ≢ json_line) lines
   pub few : length lines ≤ most_together
   pub small : length octets < 2 ^ 64
   pub later : List ℕ
@@ -75,6 +80,7 @@ pub record AreShown (lines : List (List ℕ)) (octets : List ℕ) : Type 0 where
 abbrev pub IsAhead : Ahead → Supply → Supply → Type 0
 IsAhead (Deliveries lines) old new = All IsLine (lines_of lines.items) × (length (lines_of lines.items) ≤ most_together)
     × HasShown (concat (lines_of lines.items)) old new × (0 < length (lines_of lines.items))
+    × All (λ line. line ≢ json_line) (lines_of lines.items)
 IsAhead Other old new = HasShown [] old new
 IsAhead End old new = HasTakenAll [] old new
 
@@ -82,6 +88,7 @@ IsAhead End old new = HasTakenAll [] old new
 abbrev pub IsSeen : Ahead → Option (List ℕ) → Type 0
 IsSeen (Deliveries lines) left = All IsLine (lines_of lines.items) × (length (lines_of lines.items) ≤ most_together)
     × IfSome left (λ all. StartsWith all (concat (lines_of lines.items))) × (0 < length (lines_of lines.items))
+    × All (λ line. line ≢ json_line) (lines_of lines.items)
 IsSeen Other left = Unit {0}
 IsSeen End left = IfSome left (λ all. all ≡ [])
 
@@ -95,6 +102,31 @@ MayTake (Deliveries lines) left limit = (length (concat (lines_of lines.items)) 
     × CanTake (concat (lines_of lines.items)) left limit
 MayTake Other left limit = Unit {0}
 MayTake End left limit = Unit {0}
+
+-- ---- the first line
+
+-- an input, as far as it is known, doesn't begin with the line that asks for JSON
+abbrev pub BeginsOtherwise : Supply → Type 0
+BeginsOtherwise input = IfSome input.left (λ left. StartsWith left json_line → ⊥)
+
+-- the format of a batch that begins so
+abbrev pub format_of : First → Format
+format_of firsts.Json = Json
+format_of firsts.Ready = Plain
+format_of (firsts.Taken taken line) = Plain
+
+-- what was taken of an input at its beginning: the line that asks for JSON; nothing, if lines are ready; or what comes first
+abbrev pub HasFirst : First → Supply → Supply → Type 0
+HasFirst firsts.Json old new = HasGiven json_line old new
+HasFirst firsts.Ready old new = HasShown [] old new × BeginsOtherwise old
+HasFirst (firsts.Taken taken line) old new = HasTakenNext taken line.items old new × (line.items ≢ json_line)
+
+-- where the turns begin: after the line that asks for JSON, or where the input does
+abbrev pub Begins : Format → Supply → Supply → Type 0
+Begins Json input begun = HasGiven json_line input begun
+Begins Plain input begun = (begun ≡ input) × BeginsOtherwise input
+
+-- ---- what lines do
 
 -- what a message is to the depot
 abbrev pub command_of : Mail → Command
@@ -122,37 +154,44 @@ ComesLast alone (turn ∷ next ∷ turns) later = ⊥
 
 module _ {S : Type 0} (g : Ghosts S) where
   -- what came of lines that were to be done together
-  abbrev pub HasTried : Text → Tried → List (List ℕ) → DepotAndOutput (Held S) → DepotAndOutput (Held S) → Type 0
-  HasTried name tried.Done lines old new = Happens g name (Together lines) Whole old new
-  HasTried name tried.Withdrawn lines old new = Happens g name (Withdrawn lines) Whole old new
+  abbrev pub HasTried : Text → Format → Tried → List (List ℕ) → DepotAndOutput (Held S) → DepotAndOutput (Held S) → Type 0
+  HasTried name format tried.Done lines old new = Happens g name format (Together lines) Whole old new
+  HasTried name format tried.Withdrawn lines old new = Happens g name format (Withdrawn lines) Whole old new
 
   -- a turn was taken, and the batch goes on; it ended, with this status; or it ended with a refusal, once that is told
-  abbrev pub TurnsOut : Text → Result (Option ℕ) Refusal → ℕ → ℕ → Supply → Supply → DepotAndOutput (Held S) → DepotAndOutput (Held S) → Type 0
-  TurnsOut name (Ok None) alone later input rest old new =
-      (turn : Turn) × Takes turn input rest × Happens g name turn Whole old new × GoesOn turn × ComesNext alone turn later
-  TurnsOut name (Ok (Some status)) alone later input rest old new =
-      (last : List Turn) × ((err : Output) → EndsBy (Happens g name) status 0 last input rest old new err err) × ComesLast alone last later
-  TurnsOut name (Err refusal) alone later input rest old new =
+  abbrev pub TurnsOut : Text → Format → Result (Option ℕ) Refusal → ℕ → ℕ → Supply → Supply → DepotAndOutput (Held S) → DepotAndOutput (Held S) → Type 0
+  TurnsOut name format (Ok None) alone later input rest old new =
+      (turn : Turn) × Takes turn input rest × Happens g name format turn Whole old new × GoesOn turn × ComesNext alone turn later
+  TurnsOut name format (Ok (Some status)) alone later input rest old new =
+      (last : List Turn) × ((err : Output) → EndsBy (Happens g name format) status 0 last input rest old new err err) × ComesLast alone last later
+  TurnsOut name format (Err refusal) alone later input rest old new =
       (last : List Turn)
-      × ((err err2 : Output) → HasTold refusal err err2 → EndsBy (Happens g name) 1 0 last input rest old new err err2)
+      × ((err err2 : Output) → HasTold refusal err err2 → EndsBy (Happens g name format) 1 0 last input rest old new err err2)
       × ComesLast alone last later
 
   -- this came of a turn
-  pub record HasTurned (name : Text) (came : Result (Option ℕ) Refusal) (alone later : ℕ) (input rest : Supply) (old new : DepotAndOutput (Held S)) : Type 0 where
-    pub come : TurnsOut name came alone later input rest old new
+  pub record HasTurned (name : Text) (format : Format) (came : Result (Option ℕ) Refusal) (alone later : ℕ) (input rest : Supply) (old new : DepotAndOutput (Held S)) : Type 0 where
+    pub come : TurnsOut name format came alone later input rest old new
+
+  -- this came of the first turn
+  pub record HasBegun (name : Text) (format : Format) (came : Result (Option ℕ) Refusal) (later : ℕ) (input rest : Supply) (old new : DepotAndOutput (Held S)) : Type 0 where
+    pub begun : Supply
+    pub begins : Begins format input begun
+    pub turned : HasTurned name format came 0 later begun rest old new
 
 -- ---- the desk
 
--- the name of the depot's file, and which depot, host and writer there are
+-- the name of the depot's file, the format of the answers, and which depot, host and writer there are
 pub record Places : Type 0 where
   pub name : Text
+  pub format : Format
   pub depot : GName
   pub host : GName
   pub out : GName
 
 module _ {S H W Reader Writer : Type 0} where
   abbrev pub places_of : Desk S H W Reader Writer → Places
-  places_of desk = record { name = desk.name.now; depot = desk.depot.ghost_name; host = desk.host.ghost_name; out = desk.out.ghost_name }
+  places_of desk = record { name = desk.name.now; format = desk.format; depot = desk.depot.ghost_name; host = desk.host.ghost_name; out = desk.out.ghost_name }
 
   -- what lines are answered with there
   abbrev pub on : (H → HostState) → (W → Option (List ℕ)) → Desk S H W Reader Writer → DepotAndOutput (Held S)

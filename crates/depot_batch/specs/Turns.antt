@@ -1,5 +1,6 @@
 -- A batch, turn by turn.
-use Rattle.std.specs.Prelude.{◌<◌, ◌≡◌, ◌≢◌, ◌⊎◌, ℕ, ◌-◌, ◌^◌, List, [], ◌∷◌, ◌++◌, length, take}
+use Rattle.std.specs.Prelude.{◌<◌, ◌≡◌, ◌≢◌, ◌⊎◌, ℕ, ◌-◌, ◌^◌, List, [], ◌∷◌, ◌++◌, IfSome, codes, length, take}
+use Rattle.std.specs.Io.{StartsWith}
 use Rattle.std.specs.List.{All, concat}
 use Rattle.devices.specs.Device.{Output}
 use Rattle.devices.specs.Supply.{HasGiven, Supply}
@@ -7,6 +8,8 @@ use Rattle.depot_jobs.specs.Jobs.{HasTold}
 use Rattle.refusals.specs.declared.refusal.Refusal.{Refusal}
 use Rattle.refusals.specs.declared.refusal.Refusal.TheVariants.{Database, Write}
 use Rattle.depot_batch.specs.Lines.{HasNotTaken, HasShown, HasTakenAll, IsLine, IsUnfinished}
+use Rattle.depot_batch.specs.declared.format.Format.{Format}
+use Rattle.depot_batch.specs.declared.format.Format.TheVariants.{Json, Plain}
 use Rattle.depot_batch.specs.declared.outcome.Outcome.{Outcome}
 use Rattle.depot_batch.specs.declared.outcome.Outcome.TheVariants.{Done, Refused, Wrong}
 
@@ -106,12 +109,32 @@ module _ {T : Type 0} (Happens : Turn → Writing → T → T → Type 0) where
       × HasTold refusal err err2
       × (new ≡ old))
 
-  -- a batch was served, with this status: turns were taken one after another, and made progress, until it ended
-  pub record HasServedBy (status : ℕ) (input input2 : Supply) (old new : T) (err err2 : Output) : Type 0 where
-    pub turns : List Turn
-    pub rest : Supply
-    pub mid : T
-    pub taken : AreTakenBy turns input rest old mid
-    pub last : List Turn
-    pub ended : EndsBy status (length turns) last rest input2 mid new err err2
-    pub progress : MakeProgress (turns ++ last)
+-- ---- a batch
+
+-- the line that asks for answers in JSON
+abbrev pub json_line : List ℕ
+json_line = codes "json" ++ 10 ∷ []
+
+-- Where the turns of a batch begin that has this format. If the input begins with the line that asks for JSON, they begin
+-- after that line, which has no answer. Otherwise they begin where the input does; if there is no turn, the first line could
+-- not be read.
+abbrev pub BeginsSo : Format → List Turn → Supply → Supply → Type 0
+BeginsSo Json turns input begun = HasGiven json_line input begun
+BeginsSo Plain [] input begun = begun ≡ input
+BeginsSo Plain (turn ∷ turns) input begun = (begun ≡ input) × IfSome input.left (λ left. StartsWith left json_line → ⊥)
+
+-- A batch was served, with this status: its format was found out, turns were taken one after another, and made progress,
+-- until it ended. What happens in a turn, by the format, is said elsewhere.
+pub record HasServedBy
+    {T : Type 0} (Happens : Format → Turn → Writing → T → T → Type 0) (status : ℕ) (input input2 : Supply) (old new : T)
+    (err err2 : Output) : Type 0 where
+  pub format : Format
+  pub turns : List Turn
+  pub begun : Supply
+  pub rest : Supply
+  pub mid : T
+  pub taken : AreTakenBy (Happens format) turns begun rest old mid
+  pub last : List Turn
+  pub ended : EndsBy (Happens format) status (length turns) last rest input2 mid new err err2
+  pub begins : BeginsSo format (turns ++ last) input begun
+  pub progress : MakeProgress (turns ++ last)

@@ -4,10 +4,11 @@ ghost use Rattle.sqlite.specs.Held.{state};
 ghost use Rattle.sqlite.specs.State.{Survives};
 ghost use Rattle.depot_jobs.specs.Host.{with_faults};
 ghost use Rattle.depot_actions.specs.Applying.{MayAdd};
-ghost use Rattle.depot_cli.specs.Printed.{text_in as reply_text};
 ghost use Rattle.depot_cli.specs.Requests.{on_depot};
-ghost use Rattle.depot_batch.specs.Answers.{text_in};
+ghost use Rattle.depot_batch.specs.Answers.{Says};
 ghost use Rattle.depot_batch.specs.Batch.{Did};
+ghost use Rattle.depot_batch.specs.Said.{Said};
+ghost use Rattle.depot_batch.specs.declared.report.Report.TheVariants.{Done};
 ghost use Rattle.depot_batch.specs.Effects.{HasExported, HasNotExported, HasNotReplied, HasReplied, IsDone, IsRefused, MayMake};
 
 use crate::asked::{Asked, Export};
@@ -47,8 +48,9 @@ pub fn answer_to<S: Alter, H: Host>(
     depot: &mut Depot<S>,
     host: &mut H,
 ) -> Result<Answer, Refusal>
-    ensures done { IfOk result (λ answer. IsDone (Did S.Store depot.old depot.new) name.now asked.entry
-        (text_in answer) (H.state host.old) (H.state host.new)) }
+    ensures done { IfOk result (λ answer. (said : Said) × Says (Done answer) said
+        × IsDone (Did S.Store depot.old depot.new) name.now asked.entry
+        said (H.state host.old) (H.state host.new)) }
     ensures refused { IfErr result (λ e. IsRefused (Did S.Store depot.old depot.new) name.now
         asked.entry e (H.state host.old) (H.state host.new)) }
     ensures survives { Survives (state S.Store depot.old) (state S.Store depot.new)
@@ -77,8 +79,9 @@ fn reply<S: Alter, H: Host>(
     depot: &mut Depot<S>,
     host: &mut H,
 ) -> Result<Reply, Refusal>
-    ensures done { IfOk result (λ reply. HasReplied (Did S.Store depot.old depot.new)
-        (on_depot command.entry) (reply_text reply) (H.state host.old) (H.state host.new)) }
+    ensures done { IfOk result (λ reply. (said : Said) × Says (Done (Answer.Replied reply)) said
+        × HasReplied (Did S.Store depot.old depot.new) (on_depot command.entry)
+        said (H.state host.old) (H.state host.new)) }
     ensures refused { IfErr result (λ e. HasNotReplied (Did S.Store depot.old depot.new)
         (on_depot command.entry) e (H.state host.old) (H.state host.new)) }
     ensures survives { Survives (state S.Store depot.old) (state S.Store depot.new)

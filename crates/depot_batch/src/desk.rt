@@ -1,5 +1,6 @@
 // What a batch is served with.
 
+use crate::format::Format;
 use depot_actions::Depot;
 use depot_jobs::Host;
 use devices::OfWrite;
@@ -14,6 +15,8 @@ pub struct Desk<'n, 'd, 'h, 'o, S: Alter, H: Host, W: Write + Drop> {
     pub alloc: Global,
     /// The name of the depot's file.
     pub name: &'n str,
+    /// How the answers are written.
+    pub format: Format,
     /// The depot.
     pub depot: &'d mut Depot<S>,
     /// The host, whose files lines name.

@@ -14,8 +14,12 @@ ghost use Rattle.depot_cli.specs.declared.entries.Detail.TheVariants.{Brief};
 ghost use Rattle.depot_batch.specs.Batch.{AreCallsIn, AreTaken, Did, IsMadeAtOne};
 ghost use Rattle.depot_batch.specs.Closings.{has_closing};
 ghost use Rattle.depot_batch.specs.Effects.{DepotAndOutput, HasCome};
+ghost use Rattle.depot_batch.specs.Lines.{IsLine};
+ghost use Rattle.depot_batch.specs.Said.{Said, Suits, Wording, answer_in, filed_in, lines_in};
 ghost use Rattle.depot_batch.specs.Turns.{MakeProgress, Turn, lines_answered};
 ghost use Rattle.depot_batch.specs.Words.{Writes, spaced, words_of};
+ghost use Rattle.depot_batch.specs.declared.format.Format.{Format};
+ghost use Rattle.depot_batch.specs.declared.format.Format.TheVariants.{Json};
 ghost use Rattle.depot_batch.specs.declared.outcome.Outcome.{Outcome};
 
 use sqlite::Alter;
@@ -31,14 +35,16 @@ pub fn lines_say_their_words()
 
 /// What an open depot holds after turns of a batch is what the commands of the lines that were answered `= 0` make of
 /// what it held before, one after another, in the order of the lines, whether they were done alone or together; each
-/// command has the bytes that were read of its file in its turn. Other lines change nothing.
+/// command has the bytes that were read of its file in its turn. Other lines change nothing. The format of the answers
+/// makes no difference.
 pub fn batches_are_a_fold<S: Alter>()
-    ensures { (name : List ℕ) (turns : List Turn) (input rest : Supply) (old new : DepotAndOutput (Held S))
-        (before : Entries) (taken : AreTaken S.Store name turns input rest old new)
+    ensures { (name : List ℕ) (format : Format) (turns : List Turn) (input rest : Supply)
+        (old new : DepotAndOutput (Held S))
+        (before : Entries) (taken : AreTaken S.Store name format turns input rest old new)
         → HasCleanDisk (state S.Store new.depot)
         → (IsTrue (state S.Store old.depot).is_open → Stands (state S.Store old.depot).now before)
         → (calls : List Call) × (after : Entries)
-        × AreCallsIn S.Store name turns input rest old new taken calls
+        × AreCallsIn S.Store name format turns input rest old new taken calls
         × AreSteps calls before after
         × (IsTrue (state S.Store new.depot).is_open → Stands (state S.Store new.depot).now after) }
 {}
@@ -47,17 +53,19 @@ pub fn batches_are_a_fold<S: Alter>()
 /// what the turns before it left. A turn is the command of a line that is done alone, or all commands of lines that are
 /// done together.
 pub fn crashes_leave_one_turn_whole<S: Alter>()
-    ensures { (name : List ℕ) (turns : List Turn) (input rest : Supply) (old new : DepotAndOutput (Held S))
-        → AreTaken S.Store name turns input rest old new → HasCleanDisk (state S.Store new.depot)
+    ensures { (name : List ℕ) (format : Format) (turns : List Turn) (input rest : Supply)
+        (old new : DepotAndOutput (Held S))
+        → AreTaken S.Store name format turns input rest old new → HasCleanDisk (state S.Store new.depot)
         → (trees : Trees) → (state S.Store new.depot).may_leave trees
         → (state S.Store old.depot).may_leave trees
-        ⊎ IsMadeAtOne S.Store name turns input old trees }
+        ⊎ IsMadeAtOne S.Store name format turns input old trees }
 {}
 
 /// Exactly the lines that are answered in turns are taken from the input, in their order.
 pub fn lines_are_taken_as_answered<S: Alter>()
-    ensures { (name : List ℕ) (turns : List Turn) (input rest : Supply) (old new : DepotAndOutput (Held S))
-        → AreTaken S.Store name turns input rest old new
+    ensures { (name : List ℕ) (format : Format) (turns : List Turn) (input rest : Supply)
+        (old new : DepotAndOutput (Held S))
+        → AreTaken S.Store name format turns input rest old new
         → HasGiven (concat (lines_answered turns)) input rest }
 {}
 
@@ -68,21 +76,28 @@ pub fn turns_are_at_most_twice_the_lines()
         → length turns ≤ 2 * length (lines_answered turns) + 1 }
 {}
 
-/// If no media type of an entry has a line break, no line of an answer begins with `= `, so a program that reads a batch's
-/// output can distinguish the line that ends an answer from the answer's own lines, whatever was filed. In every depot
+/// If no media type of an entry has a line break, no line of an answer begins with `= `, so a program that reads the plain
+/// output of a batch can distinguish the line that ends an answer from the answer's own lines, whatever was filed. In every depot
 /// that commands made from an empty one no media type has a line break.
 pub fn no_answer_closes_itself<S: Alter>()
-    ensures alone { (name octets : List ℕ) (outcome : Outcome) (text : List ℕ) (old new : DepotAndOutput (Held S))
-        → HasCome (Did S.Store old.depot new.depot) name octets outcome text old.host new.host
+    ensures alone { (name octets : List ℕ) (outcome : Outcome) (said : Said) (old new : DepotAndOutput (Held S))
+        → HasCome (Did S.Store old.depot new.depot) name octets outcome said old.host new.host
         → HasCleanDisk (state S.Store new.depot) → (before : Entries)
         → Stands (state S.Store old.depot).now before → HavePlainMedia before
-        → has_closing true text ≡ false }
+        → has_closing true (lines_in said) ≡ false }
     ensures together { (entries : List Listing)
         → has_closing true (entries_text Brief entries) ≡ false }
-    ensures begun { (name octets : List ℕ) (outcome : Outcome) (text : List ℕ) (old new : DepotAndOutput (Held S))
-        → HasCome (Did S.Store old.depot new.depot) name octets outcome text old.host new.host
+    ensures begun { (name octets : List ℕ) (outcome : Outcome) (said : Said) (old new : DepotAndOutput (Held S))
+        → HasCome (Did S.Store old.depot new.depot) name octets outcome said old.host new.host
         → HasCleanDisk (state S.Store new.depot) → (before : Entries)
         → Stands (state S.Store old.depot).now before
         → (calls : List Call) → AreSteps calls no_entries before
-        → has_closing true text ≡ false }
+        → has_closing true (lines_in said) ≡ false }
+{}
+
+/// Each answer in JSON is one line, whatever was filed: its text has no line break except at its end.
+pub fn json_answers_are_lines()
+    ensures alone { (wording : Wording) → Suits Json wording → (said : Said) → IsLine (answer_in wording said) }
+    ensures together { (wording : Wording) → Suits Json wording → (entries : List Listing)
+        → IsLine (filed_in wording entries) }
 {}

@@ -3,7 +3,8 @@
 //! [`batch`] reads lines, each of which is a command on the depot in words ([`words_of`], `specs/Words`; [`asked_by`],
 //! `specs/Asked`). It does each command, and writes its answer, which ends in a line with its status (`specs/Effects`).
 //! Deliveries whose lines are there together are done in one transaction (`specs/Turns`), and are answered when it is
-//! committed. So a reader of the answers sees the result of a command when it has happened.
+//! committed. So a reader of the answers sees the result of a command when it has happened. If the first line is `json`,
+//! each answer is a JSON object on one line (`specs/Said`).
 //!
 //! `43 Database` ends a batch: a failure of the disk can have shut the store, no call asks a store whether one has, and
 //! a shut store refuses everything after that. So a stored filter that is no accepted program any more ends a batch,
@@ -17,9 +18,22 @@
 //!
 //! The lines of a batch are answered in their order, each exactly as the input has it: the bytes up to the next line
 //! break and with it, of any length, never a piece of a line and never nothing (`lines_are_taken_as_answered`). In a
-//! depot that commands made of nothing no line of an answer begins with `= `, as the line does that ends it
+//! depot that commands made of nothing no line of a plain answer begins with `= `, as the line does that ends it
 //! (`no_answer_closes_itself`). It is tested, not proved, that an answer has left the program's buffer before the next
 //! line is read.
+//!
+//! ### Answers in JSON
+//!
+//! If the input begins with the line `json`, the turns of the batch begin after it, and each answer is one JSON object on
+//! one line, without another line break (`json_answers_are_lines`); otherwise each answer is plain. What happens doesn't
+//! depend on that, only the text of the answers. An object has exactly the members of its definition: the status, and
+//! what the plain answer tells, for an entry also its name, media type and size after a delivery. Bytes that aren't UTF-8
+//! are told in base64, so a reader finds the same bytes.
+//!
+//! An object is made after the command of its line is done. If memory is refused for it, the answer has only the status of
+//! the line, and a member that says so: a command that was done is never reported as refused, and no line is left without
+//! an answer. Of lines that are done together all answers are so, or none. That an object is made where there is memory is
+//! tested, not proved.
 //!
 //! ### Lines that are done together
 //!
@@ -64,23 +78,28 @@
 //! what one of the turns makes of what those before it left, with the bytes that were read of its files, whole
 //! (`crashes_leave_one_turn_whole`). So of lines that are done together it leaves all or none.
 //!
-//! By `batch`, `words_of`, `asked_by`; `reply_to` of depot_cli; `read_file_of` of depot_jobs; `Depot::deliver_all` of
-//! depot_actions; laws `lines_say_their_words`, `lines_are_taken_as_answered`, `turns_are_at_most_twice_the_lines`,
-//! `batches_are_a_fold`, `crashes_leave_one_turn_whole`, `no_answer_closes_itself`.
+//! By `batch`, `words_of`, `asked_by`; `reply_to` of depot_cli; `text_value` of catalog; `read_file_of` of depot_jobs;
+//! `Depot::deliver_all` of depot_actions; laws `lines_say_their_words`, `lines_are_taken_as_answered`,
+//! `turns_are_at_most_twice_the_lines`, `batches_are_a_fold`, `crashes_leave_one_turn_whole`,
+//! `no_answer_closes_itself`, `json_answers_are_lines`.
 #![tactic(auto)]
 
 mod ahead;
 mod answering;
 mod asked;
 mod desk;
+mod first;
+mod format;
 pub mod laws;
 mod line;
+mod made;
 mod mails;
 mod outcome;
 mod reading;
 mod report;
 mod serving;
 mod together;
+mod values;
 mod words;
 
 pub use asked::{Asked, Export, Form, LineFault, asked_by};

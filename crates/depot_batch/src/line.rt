@@ -8,7 +8,7 @@ ghost use Rattle.sqlite.specs.Held.{state};
 ghost use Rattle.sqlite.specs.State.{Survives};
 ghost use Rattle.devices.specs.Device.{HasPut};
 ghost use Rattle.depot_actions.specs.Applying.{MayAdd};
-ghost use Rattle.depot_batch.specs.Answers.{AreNoTexts, HasComeOf, HasLineWords, IsReportOn, IsUnasked, answer_text, outcome_of, unasked_report};
+ghost use Rattle.depot_batch.specs.Answers.{AreNoTexts, HasComeOf, HasLineWords, HasPutReport, IsReportOn, IsUnasked, outcome_of, unasked_report};
 ghost use Rattle.depot_batch.specs.Batch.{Did, Happens};
 ghost use Rattle.depot_batch.specs.Effects.{MayMake};
 ghost use Rattle.depot_batch.specs.Private.{on, places_of};
@@ -18,8 +18,11 @@ ghost use Rattle.depot_batch.specs.declared.outcome.Outcome.{Outcome};
 use crate::answering::answer_to;
 use crate::asked::{Asked, LineFault, asked_by};
 use crate::desk::Desk;
+use crate::format::Format;
+use crate::made::{Made, Short};
 use crate::outcome::Outcome;
 use crate::report::Report;
+use crate::values::{report_line, short_line};
 use crate::words::words_of;
 use depot_actions::Depot;
 use depot_jobs::Host;
@@ -63,14 +66,14 @@ pub fn serve<S: Alter, H: Host, W: Write + Drop>(
 ) -> Result<Outcome, DeviceFailed>
     ensures same { places_of desk.new ≡ places_of desk.old }
     ensures answered { IfOk result (λ outcome.
-        Happens S.Store desk.old.name.now (Alone line.now outcome) Whole
+        Happens S.Store desk.old.name.now desk.old.format (Alone line.now outcome) Whole
         (on H.state W.contents desk.old) (on H.state W.contents desk.new)) }
     ensures broken { OnErr result ((outcome : Outcome)
-        × Happens S.Store desk.old.name.now (Alone line.now outcome) Broken
+        × Happens S.Store desk.old.name.now desk.old.format (Alone line.now outcome) Broken
         (on H.state W.contents desk.old) (on H.state W.contents desk.new)) }
 {
     let report = report_on(desk.alloc, desk.name, line, desk.depot, desk.host);
-    give(desk.out, report)
+    give(desk.alloc, desk.format, desk.out, report)
 }
 
 // Does the command of a line, and returns what the line is answered with.
@@ -160,14 +163,46 @@ fn report_of<S: Alter, H: Host>(
     }
 }
 
-// Writes a report and the line that ends the answer, and returns the outcome of the line.
-fn give<W: Write + Drop>(out: &mut OfWrite<W>, report: Report) -> Result<Outcome, DeviceFailed>
+// Writes a report as the answer to a line, and returns the outcome of the line.
+fn give<W: Write + Drop>(
+    alloc: Global,
+    format: Format,
+    out: &mut OfWrite<W>,
+    report: Report,
+) -> Result<Outcome, DeviceFailed>
     ensures outcome { IfOk result (λ outcome. outcome ≡ outcome_of report) }
-    ensures put { HasPut result (answer_text report)
+    ensures put { HasPutReport result format report
         (⟦<OfWrite<W> as Sink>⟧.output out.old) (⟦<OfWrite<W> as Sink>⟧.output out.new) }
 {
-    put_whole(out, &report)?;
-    Ok(report.outcome())
+    match put_report(alloc, format, out, &report) {
+        Ok(()) => Ok(report.outcome()),
+        Err(DeviceFailed) => Err(DeviceFailed),
+    }
+}
+
+// Writes a report as the answer to a line. The command is done then: if memory is refused for an object, a line that
+// takes none has the status alone.
+fn put_report<W: Write + Drop>(
+    alloc: Global,
+    format: Format,
+    out: &mut OfWrite<W>,
+    report: &Report,
+) -> Result<(), DeviceFailed>
+    ensures { HasPutReport result format report.now
+        (⟦<OfWrite<W> as Sink>⟧.output out.old) (⟦<OfWrite<W> as Sink>⟧.output out.new) }
+{
+    match format {
+        Format::Plain => put_whole(out, report),
+        Format::Json => match report_line(alloc, report) {
+            Ok(text) => put_whole(out, &Made { text }),
+            Err(AllocError) => put_whole(
+                out,
+                &Short {
+                    text: short_line(report),
+                },
+            ),
+        },
+    }
 }
 
 /// Writes the text of a value, and makes sure that all of it is written.

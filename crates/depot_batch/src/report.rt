@@ -7,7 +7,7 @@ ghost use Rattle.devices.specs.Pages.{Wrote};
 ghost use Rattle.printing.specs.Printed.{line as line_of};
 ghost use Rattle.depot_batch.specs.Answers.{answer_text, outcome_of, report_text, text_in};
 ghost use Rattle.depot_batch.specs.Asked.{wrong_line};
-ghost use Rattle.depot_batch.specs.Effects.{closing, exported_text};
+ghost use Rattle.depot_batch.specs.Said.{closing, exported_text};
 
 use crate::answering::Answer;
 use crate::asked::LineFault;

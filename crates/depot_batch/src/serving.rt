@@ -13,13 +13,14 @@ ghost use Rattle.std.specs.List.{All, concat};
 ghost use Rattle.refusals.specs.declared.refusal.Refusal.TheVariants.{Database};
 ghost use Rattle.devices.specs.Supply.{Supply};
 ghost use Rattle.depot_batch.specs.Batch.{HasServed, IsServed};
-ghost use Rattle.depot_batch.specs.Effects.{most_together};
+ghost use Rattle.depot_batch.specs.Effects.{depot_and_output, most_together};
 ghost use Rattle.depot_batch.specs.Lines.{HasShown, IsLine};
-ghost use Rattle.depot_batch.specs.Private.{CanTake, HasTurned, lines_of, on, places_of};
+ghost use Rattle.depot_batch.specs.Private.{CanTake, HasBegun, HasFirst, HasTakenNext, HasTurned, format_of, lines_of, on, places_of};
 ghost use Rattle.depot_batch.specs.declared.outcome.Outcome.TheVariants.{Refused};
 
 use crate::ahead::{Ahead, look_ahead, take_lines};
 use crate::desk::Desk;
+use crate::first::{First, first_of};
 use crate::line::serve;
 use crate::outcome::Outcome;
 use crate::reading::{Taken, next_line};
@@ -45,6 +46,10 @@ const REFUSED: u8 = 1;
 /// was refused, the line of the refusal is written to `err`, and the status is 1. A depot that was opened stays open;
 /// the caller closes it.
 ///
+/// If the first line is `json`, it has no answer, and each answer to another line is a JSON object on one line. If memory
+/// is refused for such an object, the command of the line is done or refused as its `status` says, and the object has
+/// only this and the member `incomplete`.
+///
 /// The status is 0 at the end of the input. If the input ends within a line, the bytes after the last line break are
 /// answered as no command, and nothing more is read. The status is 1 after a line that is refused with `Database`,
 /// because a failure can have shut the depot's store. It is also 1 if the input or `out` fails, or memory is refused
@@ -67,17 +72,40 @@ pub fn batch<S: Alter, H: Host, R: BufRead + Drop, W: Write + Drop, E: Sink>(
         (E.output err.old) (E.output err.new) }
 {
     match opened {
-        Ok(depot) => {
+        Ok(depot) => serve_depot(alloc, name, depot, host, input, out, err),
+        Err(refusal) => tell(err, refusal),
+    }
+}
+
+// Finds out how the batch begins, does its lines, and returns the status.
+fn serve_depot<S: Alter, H: Host, R: BufRead + Drop, W: Write + Drop, E: Sink>(
+    alloc: Global,
+    name: &str,
+    depot: &mut Depot<S>,
+    host: &mut H,
+    input: &mut OfRead<R>,
+    out: &mut OfWrite<W>,
+    err: &mut E,
+) -> u8
+    ensures { HasServed S.Store name.now result
+        (⟦<OfRead<R> as Source>⟧.supply input.old) (⟦<OfRead<R> as Source>⟧.supply input.new)
+        (depot_and_output depot.old (H.state host.old) (⟦<OfWrite<W> as Sink>⟧.output out.old))
+        (depot_and_output depot.new (H.state host.new) (⟦<OfWrite<W> as Sink>⟧.output out.new))
+        (E.output err.old) (E.output err.new) }
+{
+    match first_of(alloc, input) {
+        Ok(first) => {
             let mut desk = Desk {
                 alloc,
                 name,
+                format: first.format(),
                 depot,
                 host,
                 out,
             };
-            serve_lines(&mut desk, input, err)
+            serve_lines(&mut desk, first, input, err)
         }
-        Err(refusal) => tell(err, refusal),
+        Err(refusal) => tell(err, &refusal),
     }
 }
 
@@ -85,17 +113,25 @@ pub fn batch<S: Alter, H: Host, R: BufRead + Drop, W: Write + Drop, E: Sink>(
 // told here.
 fn serve_lines<S: Alter, H: Host, R: BufRead + Drop, W: Write + Drop, E: Sink>(
     desk: &mut Desk<'_, '_, '_, '_, S, H, W>,
+    first: First,
     input: &mut OfRead<R>,
     err: &mut E,
 ) -> u8
     ensures same { places_of desk.new ≡ places_of desk.old }
-    ensures served { HasServed S.Store desk.old.name.now result
-        (⟦<OfRead<R> as Source>⟧.supply input.old) (⟦<OfRead<R> as Source>⟧.supply input.new)
+    ensures served { desk.old.format ≡ format_of first → (before : Supply)
+        → HasFirst first before (⟦<OfRead<R> as Source>⟧.supply input.old)
+        → HasServed S.Store desk.old.name.now result
+        before (⟦<OfRead<R> as Source>⟧.supply input.new)
         (on H.state W.contents desk.old) (on H.state W.contents desk.new)
         (E.output err.old) (E.output err.new) }
 {
     let mut alone = 0;
-    'turns: for _ in 0..u64::MAX {
+    match take_first(desk, first, &mut alone, input) {
+        Ok(None) => {}
+        Ok(Some(status)) => return status,
+        Err(refusal) => return tell(err, &refusal),
+    }
+    'turns: for _ in 1..u64::MAX {
         match take_turn(desk, &mut alone, input) {
             Ok(None) => {}
             Ok(Some(status)) => return status,
@@ -103,6 +139,36 @@ fn serve_lines<S: Alter, H: Host, R: BufRead + Drop, W: Write + Drop, E: Sink>(
         }
     }
     SUCCESS
+}
+
+// Takes the first turn: answers what was taken of the input, or takes a turn as any other.
+//
+// # Requires
+//
+// No line is to be done alone.
+//
+// # Errors
+//
+// The refusal with which the batch ends: `Read`, `Write` or `Memory`.
+fn take_first<S: Alter, H: Host, R: BufRead + Drop, W: Write + Drop>(
+    desk: &mut Desk<'_, '_, '_, '_, S, H, W>,
+    first: First,
+    alone: &mut usize,
+    input: &mut OfRead<R>,
+) -> Result<Option<u8>, Refusal>
+    requires none { alone.old ≡ 0 }
+    ensures same { places_of desk.new ≡ places_of desk.old }
+    ensures begun { desk.old.format ≡ format_of first → (before : Supply)
+        → HasFirst first before (⟦<OfRead<R> as Source>⟧.supply input.old)
+        → HasBegun S.Store desk.old.name.now desk.old.format result alone.new
+        before (⟦<OfRead<R> as Source>⟧.supply input.new)
+        (on H.state W.contents desk.old) (on H.state W.contents desk.new) }
+{
+    match first {
+        First::Taken(taken, line) => answer_taken(desk, taken, &line),
+        First::Json => take_turn(desk, alone, input),
+        First::Ready => take_turn(desk, alone, input),
+    }
 }
 
 // Takes a turn: does lines together that are ready and begin as deliveries do, or else the next line alone, also if so
@@ -117,7 +183,7 @@ fn take_turn<S: Alter, H: Host, R: BufRead + Drop, W: Write + Drop>(
     input: &mut OfRead<R>,
 ) -> Result<Option<u8>, Refusal>
     ensures same { places_of desk.new ≡ places_of desk.old }
-    ensures turned { HasTurned S.Store desk.old.name.now result alone.old alone.new
+    ensures turned { HasTurned S.Store desk.old.name.now desk.old.format result alone.old alone.new
         (⟦<OfRead<R> as Source>⟧.supply input.old) (⟦<OfRead<R> as Source>⟧.supply input.new)
         (on H.state W.contents desk.old) (on H.state W.contents desk.new) }
 {
@@ -159,7 +225,7 @@ fn take_together<S: Alter, H: Host, R: BufRead + Drop, W: Write + Drop>(
     ensures turned { (before : Supply)
         → CanTake (concat (lines_of lines.items)) before.left (R.consumable_len input.old.inner)
         → HasShown (concat (lines_of lines.items)) before (⟦<OfRead<R> as Source>⟧.supply input.old)
-        → HasTurned S.Store desk.old.name.now result alone.old alone.new
+        → HasTurned S.Store desk.old.name.now desk.old.format result alone.old alone.new
         before (⟦<OfRead<R> as Source>⟧.supply input.new)
         (on H.state W.contents desk.old) (on H.state W.contents desk.new) }
 {
@@ -192,22 +258,43 @@ fn take_alone<S: Alter, H: Host, R: BufRead + Drop, W: Write + Drop>(
 ) -> Result<Option<u8>, Refusal>
     ensures same { places_of desk.new ≡ places_of desk.old }
     ensures turned { (alone later : ℕ) → alone ≤ later + 1
-        → HasTurned S.Store desk.old.name.now result alone later
+        → HasTurned S.Store desk.old.name.now desk.old.format result alone later
         (⟦<OfRead<R> as Source>⟧.supply input.old) (⟦<OfRead<R> as Source>⟧.supply input.new)
         (on H.state W.contents desk.old) (on H.state W.contents desk.new) }
 {
     let mut line = Vec::new(desk.alloc);
     match next_line(input, &mut line) {
-        Ok(Taken::Line) => match serve(desk, &line) {
+        Ok(taken) => answer_taken(desk, taken, &line),
+        Err(refusal) => Err(refusal),
+    }
+}
+
+// Answers what was taken of the input. Returns the status of a batch that ends with it.
+//
+// # Errors
+//
+// `Write` if the answer can't be written.
+fn answer_taken<S: Alter, H: Host, W: Write + Drop>(
+    desk: &mut Desk<'_, '_, '_, '_, S, H, W>,
+    taken: Taken,
+    line: &[u8],
+) -> Result<Option<u8>, Refusal>
+    ensures same { places_of desk.new ≡ places_of desk.old }
+    ensures turned { (alone later : ℕ) (before after : Supply) → alone ≤ later + 1
+        → HasTakenNext taken line.now before after
+        → HasTurned S.Store desk.old.name.now desk.old.format result alone later before after
+        (on H.state W.contents desk.old) (on H.state W.contents desk.new) }
+{
+    match taken {
+        Taken::Line => match serve(desk, line) {
             Ok(outcome) => Ok(status_after(&outcome)),
             Err(DeviceFailed) => Err(Refusal::Write),
         },
-        Ok(Taken::Unfinished) => match serve(desk, &line) {
+        Taken::Unfinished => match serve(desk, line) {
             Ok(_) => Ok(Some(SUCCESS)),
             Err(DeviceFailed) => Err(Refusal::Write),
         },
-        Ok(Taken::Nothing) => Ok(Some(SUCCESS)),
-        Err(refusal) => Err(refusal),
+        Taken::Nothing => Ok(Some(SUCCESS)),
     }
 }
 

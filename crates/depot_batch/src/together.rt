@@ -16,17 +16,22 @@ ghost use Rattle.devices.specs.Pages.{Wrote};
 ghost use Rattle.depot_actions.specs.Deliveries.{DoesAll, MayLeaveAll, command_of as asked_of};
 ghost use Rattle.depot_actions.specs.DepotState.{Listed};
 ghost use Rattle.depot_batch.specs.Batch.{Happens};
-ghost use Rattle.depot_batch.specs.Effects.{filed_text, most_together};
+ghost use Rattle.depot_batch.specs.Answers.{HasPutFiled};
+ghost use Rattle.depot_batch.specs.Effects.{most_together};
 ghost use Rattle.depot_batch.specs.Private.{HasTried, command_of, filed_by, lines_of, on, places_of};
+ghost use Rattle.depot_batch.specs.Said.{InLines, filed_in};
 ghost use Rattle.depot_batch.specs.Turns.{Broken, Together};
 
 use crate::desk::Desk;
+use crate::format::Format;
 use crate::line::put_whole;
+use crate::made::{FiledShort, Made};
 use crate::mails::{Mail, read_mails};
+use crate::values::filed_lines;
 use depot_actions::{Delivery, Depot};
 use depot_cli::{Detail, print_entries};
 use depot_jobs::Host;
-use devices::{DeviceFailed, Page, Sink};
+use devices::{DeviceFailed, OfWrite, Page, Sink};
 use part_store::EntryRow;
 use printing::{Printable, print_line};
 use sqlite::Alter;
@@ -62,9 +67,9 @@ pub fn serve_together<S: Alter, H: Host, W: Write + Drop>(
     ensures same { places_of desk.new ≡ places_of desk.old }
     ensures first { (later : List (Vec ℕ Global)) × (lines.old.items ≡ lines.new.items ++ later) }
     ensures some { 0 < length (lines_of lines.new.items) }
-    ensures tried { IfOk result (λ tried. HasTried S.Store desk.old.name.now tried
+    ensures tried { IfOk result (λ tried. HasTried S.Store desk.old.name.now desk.old.format tried
         (lines_of lines.new.items) (on H.state W.contents desk.old) (on H.state W.contents desk.new)) }
-    ensures broken { OnErr result (Happens S.Store desk.old.name.now
+    ensures broken { OnErr result (Happens S.Store desk.old.name.now desk.old.format
         (Together (lines_of lines.new.items)) Broken
         (on H.state W.contents desk.old) (on H.state W.contents desk.new)) }
 {
@@ -74,10 +79,29 @@ pub fn serve_together<S: Alter, H: Host, W: Write + Drop>(
     lines.truncate(mails.len());
     match deliver_mails(desk.alloc, &mails, desk.depot) {
         Some(replies) => {
-            put_whole(desk.out, &Filed { replies })?;
+            put_filed(desk.alloc, desk.format, desk.out, replies)?;
             Ok(Tried::Done)
         }
         None => Ok(Tried::Withdrawn),
+    }
+}
+
+// Writes the answers to deliveries, which are done then.
+fn put_filed<W: Write + Drop>(
+    alloc: Global,
+    format: Format,
+    out: &mut OfWrite<W>,
+    replies: Vec<Vec<EntryRow>>,
+) -> Result<(), DeviceFailed>
+    ensures { HasPutFiled result format (map filed_by replies.items)
+        (⟦<OfWrite<W> as Sink>⟧.output out.old) (⟦<OfWrite<W> as Sink>⟧.output out.new) }
+{
+    match format {
+        Format::Plain => put_whole(out, &Filed { replies }),
+        Format::Json => match filed_lines(alloc, &replies) {
+            Ok(text) => put_whole(out, &Made { text }),
+            Err(AllocError) => put_whole(out, &FiledShort { replies }),
+        },
     }
 }
 
@@ -126,7 +150,7 @@ struct Filed {
 }
 
 impl Printable for Filed {
-    ghost text = { λ filed. flat_map filed_text (map filed_by filed.replies.items) };
+    ghost text = { λ filed. flat_map (filed_in InLines) (map filed_by filed.replies.items) };
 
     fn print_on<O: Sink>(&self, page: &mut Page<'_, O>) {
         print_filed(page, &self.replies);
@@ -135,7 +159,7 @@ impl Printable for Filed {
 
 // Prints the answers to deliveries.
 fn print_filed<O: Sink>(page: &mut Page<'_, O>, replies: &[Vec<EntryRow>])
-    ensures { Wrote (flat_map filed_text (map filed_by replies.now)) page.old page.new }
+    ensures { Wrote (flat_map (filed_in InLines) (map filed_by replies.now)) page.old page.new }
 {
     'replies: for rows in replies {
         print_one(page, rows);
@@ -144,7 +168,7 @@ fn print_filed<O: Sink>(page: &mut Page<'_, O>, replies: &[Vec<EntryRow>])
 
 // Prints the answer to a delivery.
 fn print_one<O: Sink>(page: &mut Page<'_, O>, rows: &[EntryRow])
-    ensures { Wrote (filed_text (map listed rows.now)) page.old page.new }
+    ensures { Wrote (filed_in InLines (map listed rows.now)) page.old page.new }
 {
     print_entries(page, Detail::Brief, rows);
     print_line(page, "= 0");

@@ -1,9 +1,11 @@
 -- What is printed of a depot.
-use Rattle.std.specs.Prelude.{ℕ, List, [], ◌∷◌, ◌++◌, codes, map, Option, None, Some, string_bytes}
+use Rattle.std.specs.Prelude.{◌≡◌, ℕ, List, [], ◌∷◌, ◌++◌, codes, map, Option, None, Some, Vec, string_bytes}
 use Rattle.std.specs.List.{flat_map}
 use Rattle.std.specs.Fmt.{decimal}
+use Rattle.std.specs.declared.alloc.Global.{Global}
 use Rattle.part_store.specs.Entries.{Listing}
 use Rattle.part_store.specs.Standing.{listed}
+use Rattle.part_store.specs.declared.entry.EntryRow.{EntryRow}
 use Rattle.part_store.specs.declared.entry.Kind.{Kind}
 use Rattle.part_store.specs.declared.entry.Kind.TheVariants.{Message, Part as Piece}
 use Rattle.part_store.specs.declared.scrubbing.DamagedEntry.{DamagedEntry}
@@ -68,6 +70,17 @@ reply_text (Export user number encoding) (Written text) = text
 reply_text (Remove user number) reply = removed_text number
 reply_text Migrate (Migrated number) = migrated_text number
 reply_text _ reply = []
+
+-- a reply of the code tells that a command was done with this reply
+abbrev pub Tells : Command → Reply → Replied → Type 0
+Tells (SetScript user script) reply told = told ≡ replies.Stored
+Tells (SetCode user program) reply told = told ≡ replies.Stored
+Tells (Deliver user message) reply told = (rows : Vec EntryRow Global) × (told ≡ replies.Filed rows) × (reply ≡ Listed (map listed rows.items))
+Tells (ListAll user) reply told = (rows : Vec EntryRow Global) × (told ≡ replies.Listed rows) × (reply ≡ Listed (map listed rows.items))
+Tells (ListSince user number) reply told = (rows : Vec EntryRow Global) × (told ≡ replies.Listed rows) × (reply ≡ Listed (map listed rows.items))
+Tells (Remove user number) reply told = told ≡ replies.Removed number
+Tells Migrate reply told = (count : ℕ) × (told ≡ replies.Migrated count) × (reply ≡ Migrated count)
+Tells command reply told = ⊥
 
 -- a reply of the code, as what is printed of it
 abbrev pub text_in : Replied → List ℕ

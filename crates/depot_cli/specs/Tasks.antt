@@ -1,5 +1,5 @@
 -- What performing a task does.
-use Rattle.std.specs.Prelude.{◌≡◌, ◌≢◌, ◌⊎◌, ℕ, List}
+use Rattle.std.specs.Prelude.{◌≡◌, ◌≢◌, ◌⊎◌, ℕ}
 use Rattle.sqlite.specs.State.{HasCleanDisk, State}
 use Rattle.part_store.specs.Standing.{LeavesUnchanged}
 use Rattle.depot_actions.specs.Applying.{HasFault}
@@ -9,7 +9,8 @@ use Rattle.devices.specs.Device.{HasBegun, HasBroken, HasTaken, Output}
 use Rattle.refusals.specs.declared.refusal.Refusal.{Refusal}
 use Rattle.refusals.specs.declared.refusal.Refusal.TheVariants.{Memory, Write}
 use Rattle.depot_jobs.specs.Jobs.{HasTold}
-use Rattle.depot_cli.specs.Printed.{reply_text}
+use Rattle.depot_cli.specs.Printed.{Tells, reply_text, text_in}
+use Rattle.depot_cli.specs.declared.task.Reply.{Reply as Replied}
 
 -- ---- what performing does
 
@@ -26,10 +27,10 @@ store_and_outputs store out err = record { store = store; out = out; err = err }
 abbrev pub HasDone : Command → Reply → State → State → Type 0
 HasDone command reply old new = HasCleanDisk new → Does command reply old new
 
--- the depot did the command, and this is what is printed of its reply
-abbrev pub HasAnswered : Command → List ℕ → State → State → Type 0
-HasAnswered command text old new =
-    (reply : Reply) × HasDone command reply old new × (text ≡ reply_text command reply)
+-- the depot did the command, and the code's reply tells its reply, and is printed as that is
+abbrev pub HasAnswered : Command → Replied → State → State → Type 0
+HasAnswered command told old new =
+    (reply : Reply) × HasDone command reply old new × (text_in told ≡ reply_text command reply) × Tells command reply told
 
 -- The depot refused the command by a refusal that this command may get, whatever the disk does. As
 -- long as the disk returns what was written, the refusal has its cause, and the depot is as it was.

@@ -72,8 +72,8 @@ fn print_entry<O: Sink>(page: &mut Page<'_, O>, detail: Detail, row: &EntryRow)
     }
 }
 
-// The name of a kind of entry.
-fn kind_name(kind: Kind) -> &'static str
+/// Returns the name of a kind of entry, as it is printed: `message` or `part`.
+pub fn kind_name(kind: Kind) -> &'static str
     ensures { result.now ≡ kind_text kind }
 {
     match kind {

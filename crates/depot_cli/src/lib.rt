@@ -91,7 +91,7 @@ mod scrubbing;
 mod task;
 
 pub use carrying::{carry, look_opened};
-pub use entries::{Detail, print_entries};
+pub use entries::{Detail, kind_name, print_entries};
 pub use looks::{Look, Seen, look_over};
 pub use no_depot::{NoDepot, tell_no_depot};
 pub use pending_task::PendingTask;

@@ -126,7 +126,7 @@ pub fn reply_to<S: Alter>(
     asked: WithReply<'_, &[u8]>,
     depot: &mut Depot<S>,
 ) -> Result<Reply, Refusal>
-    ensures done { IfOk result (λ reply. HasAnswered (command_with_reply asked.entry) (text_in reply)
+    ensures done { IfOk result (λ reply. HasAnswered (command_with_reply asked.entry) reply
         (state S.Store depot.old) (state S.Store depot.new)) }
     ensures refused { IfErr result (λ e. HasRefused (command_with_reply asked.entry) e
         (state S.Store depot.old) (state S.Store depot.new)) }

@@ -1,7 +1,17 @@
-use Rattle.std.proofs.Common.{refl, []}
-use Rattle.depot_cli.specs.declared.task.WithReply.TheVariants.{OnUser, Migrate}
+use Rattle.std.proofs.Common.{refl, subst, sym, ℕ, List, []}
+use Rattle.depot_jobs.specs.Inputs.{HasReadFile, file_of}
+use Rattle.depot_cli.specs.Requests.{on_depot}
+use Rattle.depot_cli.specs.declared.task.WithReply.TheVariants.{FromFile, OnUser, Migrate}
 use Rattle.depot_batch.proofs.Replying.{done_reply, left_by_reply, refused_reply}
 use Rattle.depot_batch.proofs.answering.reply.Goals as goal
+
+pub returns-in_ok-octets-in-FromFile-clause-done : goal.returns-in_ok-octets-in-FromFile-clause-done
+returns-in_ok-octets-in-FromFile-clause-done g c =
+    let host = g.H.Host.state c.args.host.now in
+    let host2 = g.H.Host.state c.read_file_of.new.host in
+    let command = FromFile c.in-FromFile.deposit c.in-FromFile.user c.in-FromFile.file in
+    let read = subst (λ (octets : List ℕ). HasReadFile (file_of (on_depot command)) octets host host2) (sym c.as_slice.ensures.value) c.in_ok-octets-in-FromFile.ensures.read in
+    rw c.in-FromFile.is (done_reply g.S.Store command c.as_slice.result.now c.args.depot.now c.reply_to.new.depot host host2 read c.reply_to.result c.reply_to.ensures.done)
 
 pub returns-in-OnUser-clause-done : goal.returns-in-OnUser-clause-done
 returns-in-OnUser-clause-done g c =

@@ -8,6 +8,6 @@ pub returns : goal.returns
 returns g c = record {
   alone = closes_none g.S.Store;
   together = brief_closes_none;
-  begun = λ name octets outcome text old new come clean before stands calls steps.
-      closes_none g.S.Store name octets outcome text old new come clean before stands (calls_plain calls no_entries before steps refl);
+  begun = λ name octets outcome said old new come clean before stands calls steps.
+      closes_none g.S.Store name octets outcome said old new come clean before stands (calls_plain calls no_entries before steps refl);
 }

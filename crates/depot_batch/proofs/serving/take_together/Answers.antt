@@ -30,7 +30,7 @@ returns-in-Ok-Done-clause-turned g c before can shown =
           first_whole c.args.lines.items cut first.0 first.1 c.requires.whole,
           first_taken c.args.lines.items cut first.0 first.1 c.deref.result.now before _ _ (g.R.BufRead.consumable_len c.args.input.now.inner) c.deref.ensures.value can shown (c.take_lines.ensures before),
         ),
-        tried_as g.S.Store _ _ _ _ c.in-Ok-Done.field-0-is c.in-Ok-Done.ensures.tried,
+        tried_as g.S.Store _ _ _ _ _ c.in-Ok-Done.field-0-is c.in-Ok-Done.ensures.tried,
         tt,
         (c.requires.none, c.in-Ok-Done.ensures.some),
       );
@@ -46,7 +46,7 @@ returns-in-Ok-Withdrawn-clause-turned g c before can shown =
       come = (
         Withdrawn (lines_of cut),
         (first_whole c.args.lines.items cut first.0 first.1 c.requires.whole, first_shown c.args.lines.items cut first.0 first.1 before _ shown),
-        tried_as g.S.Store _ _ _ _ c.in-Ok-Withdrawn.field-0-is c.in-Ok-Withdrawn.ensures.tried,
+        tried_as g.S.Store _ _ _ _ _ c.in-Ok-Withdrawn.field-0-is c.in-Ok-Withdrawn.ensures.tried,
         tt,
         (c.requires.none, c.in-Ok-Withdrawn.ensures.some, omega (arith, count, many)),
       );
@@ -56,7 +56,7 @@ pub returns-clause-turned : goal.returns-clause-turned
 returns-clause-turned g c before can shown =
     let cut = c.serve_together.new.lines.items in
     let first = c.in-Err.ensures.first in
-    turned_broken g.S.Store _ (Together (lines_of cut)) (c.requires.none, c.in-Err.ensures.some) (
+    turned_broken g.S.Store _ _ (Together (lines_of cut)) (c.requires.none, c.in-Err.ensures.some) (
       first_whole c.args.lines.items cut first.0 first.1 c.requires.whole,
       first_taken c.args.lines.items cut first.0 first.1 c.deref-in-Err.result.now before _ _ (g.R.BufRead.consumable_len c.args.input.now.inner) c.deref-in-Err.ensures.value can shown (c.take_lines-in-Err.ensures before),
     )

@@ -7,11 +7,11 @@ returns-then-alone-gt0-clause-turned g c = c.take_alone.ensures.turned c.args.al
 
 pub returns-in-Ok-Other-clause-turned : goal.returns-in-Ok-Other-clause-turned
 returns-in-Ok-Other-clause-turned g c =
-    turned_after g.S.Store _ _ (ahead_as _ _ c.in-Ok-Other.field-0-is c.in-Ok-Other.ensures.ahead)
+    turned_after g.S.Store _ _ _ (ahead_as _ _ c.in-Ok-Other.field-0-is c.in-Ok-Other.ensures.ahead)
     (c.take_alone-in-Ok-Other.ensures.turned c.args.alone.now c.args.alone.now (omega arith))
 
 pub returns-in-Ok-End-clause-turned : goal.returns-in-Ok-End-clause-turned
-returns-in-Ok-End-clause-turned g c = turned_end g.S.Store _ (ahead_as _ _ c.in-Ok-End.field-0-is c.in-Ok-End.ensures.ahead)
+returns-in-Ok-End-clause-turned g c = turned_end g.S.Store _ _ (ahead_as _ _ c.in-Ok-End.field-0-is c.in-Ok-End.ensures.ahead)
 
 pub returns-in-Err-clause-turned : goal.returns-in-Err-clause-turned
-returns-in-Err-clause-turned g c = turned_unread g.S.Store _ [] c.in-Err.ensures.refused
+returns-in-Err-clause-turned g c = turned_unread g.S.Store _ _ [] c.in-Err.ensures.refused

@@ -4,16 +4,16 @@ use Rattle.depot_actions.specs.DepotState.{Listed, Migrated}
 use Rattle.depot_cli.proofs.task.reply_to.Goals as goal
 
 pub returns-in-Ok-deliver-clause-done : goal.returns-in-Ok-deliver-clause-done
-returns-in-Ok-deliver-clause-done g c = rw (c.in-FromFile.is, c.in-Message.is) (Listed (map listed c.in-Ok-deliver.rows.items), c.in-Ok-deliver.ensures.done, refl)
+returns-in-Ok-deliver-clause-done g c = rw (c.in-FromFile.is, c.in-Message.is) (Listed (map listed c.in-Ok-deliver.rows.items), c.in-Ok-deliver.ensures.done, refl, (c.in-Ok-deliver.rows, refl, refl))
 
 pub returns-in-Ok-list-clause-done : goal.returns-in-Ok-list-clause-done
-returns-in-Ok-list-clause-done g c = rw (c.in-OnUser.is, c.in-List.is) (Listed (map listed c.in-Ok-list.rows.items), c.in-Ok-list.ensures.done, refl)
+returns-in-Ok-list-clause-done g c = rw (c.in-OnUser.is, c.in-List.is) (Listed (map listed c.in-Ok-list.rows.items), c.in-Ok-list.ensures.done, refl, (c.in-Ok-list.rows, refl, refl))
 
 pub returns-in-Ok-list_since-clause-done : goal.returns-in-Ok-list_since-clause-done
-returns-in-Ok-list_since-clause-done g c = rw (c.in-OnUser.is, c.in-Since.is) (Listed (map listed c.in-Ok-list_since.rows.items), c.in-Ok-list_since.ensures.done, refl)
+returns-in-Ok-list_since-clause-done g c = rw (c.in-OnUser.is, c.in-Since.is) (Listed (map listed c.in-Ok-list_since.rows.items), c.in-Ok-list_since.ensures.done, refl, (c.in-Ok-list_since.rows, refl, refl))
 
 pub returns-in-Ok-migrate-clause-done : goal.returns-in-Ok-migrate-clause-done
-returns-in-Ok-migrate-clause-done g c = rw c.in-Migrate.is (Migrated c.in-Ok-migrate.count, c.in-Ok-migrate.ensures.done, refl)
+returns-in-Ok-migrate-clause-done g c = rw c.in-Migrate.is (Migrated c.in-Ok-migrate.count, c.in-Ok-migrate.ensures.done, refl, (c.in-Ok-migrate.count, refl, refl))
 
 pub returns-in-Err-migrate-clause-refused : goal.returns-in-Err-migrate-clause-refused
 returns-in-Err-migrate-clause-refused g c =
