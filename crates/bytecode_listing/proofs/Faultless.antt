@@ -1,7 +1,7 @@
 -- A listing of a program has no fault.
 use Rattle.std.proofs.Common.{◌≡◌, ℕ, List, ◌-◌, length, Result, MatchResult, refl, subst}
 use Rattle.bytecode_format.specs.Code.{Code}
-use Rattle.bytecode_listing.specs.declared.error.FaultKind.{FaultKind}
+use Rattle.refusals.specs.declared.fault_kind.FaultKind.{FaultKind}
 use Rattle.bytecode_listing.specs.declared.error.ListingError.{ListingError}
 use Rattle.bytecode_listing.specs.declared.error.ListingError.TheVariants.{Memory, Fault}
 use Rattle.bytecode_listing.specs.Items.{ExceedsAt, FaultsAt, Lists}

@@ -20,8 +20,8 @@ use Rattle.bytecode_listing.specs.declared.drafts.Target.TheVariants.{Number, Na
 use Rattle.bytecode_listing.specs.declared.drafts.Draft.{Draft}
 use Rattle.bytecode_listing.specs.declared.drafts.Line.{Line}
 use Rattle.bytecode_listing.specs.declared.drafts.Line.TheVariants.{Label, Step}
-use Rattle.bytecode_listing.specs.declared.error.FaultKind.{FaultKind}
-use Rattle.bytecode_listing.specs.declared.error.FaultKind.TheVariants.{Misplaced, SecondLabel, NoLabel, Limits}
+use Rattle.refusals.specs.declared.fault_kind.FaultKind.{FaultKind}
+use Rattle.refusals.specs.declared.fault_kind.FaultKind.TheVariants.{Misplaced, SecondLabel, NoLabel, Limits}
 use Rattle.bytecode_listing.specs.Labels.{◌>>=◌, count, double_after, resolved}
 use Rattle.bytecode_listing.specs.Tokens.{Token, Word, Text, Wrong, Placed, tokens_of}
 

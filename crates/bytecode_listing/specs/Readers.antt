@@ -5,7 +5,7 @@ use Rattle.std.specs.Borrow.{Bor}
 use Rattle.std.specs.Str.{all_ascii_digits}
 use Rattle.bytecode_listing.specs.declared.error.ReadError.{ReadError}
 use Rattle.bytecode_listing.specs.declared.error.ReadError.TheVariants.{Memory, At}
-use Rattle.bytecode_listing.specs.declared.error.FaultKind.{FaultKind}
+use Rattle.refusals.specs.declared.fault_kind.FaultKind.{FaultKind}
 use Rattle.bytecode_listing.specs.declared.error.ListingError.{ListingError}
 use Rattle.bytecode_listing.specs.declared.error.ListingError.TheVariants as listings
 use Rattle.bytecode_listing.specs.declared.error.ListingError.TheVariants.{Fault}

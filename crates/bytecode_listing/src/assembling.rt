@@ -4,16 +4,17 @@ ghost use Rattle.bytecode_listing.specs.Tokens.{tokens_of};
 ghost use Rattle.bytecode_listing.specs.Items.{numbers_at, strings_at, lines_at, items_at, Lists, FaultsAt, kind_of};
 ghost use Rattle.bytecode_listing.specs.Labels.{count};
 ghost use Rattle.bytecode_listing.specs.Readers.{Gives, with_rest, drafted, fault_in};
-ghost use Rattle.bytecode_listing.specs.declared.error.FaultKind.{FaultKind};
+ghost use Rattle.refusals.specs.declared.fault_kind.FaultKind.{FaultKind};
 ghost use Rattle.bytecode_listing.specs.declared.error.ListingError.TheVariants.{Fault};
 
 use crate::drafts::Line;
-use crate::error::{FaultKind, ListingError, ReadError};
+use crate::error::{ListingError, ReadError};
 use crate::items::{keyword_of, line_of, number_of, number_row, string_row};
 use crate::labels::{places_of, resolved};
 use crate::tokens::{begins_with, is_left};
 use bytecode_format::Program;
 use octets::Octets;
+use refusals::FaultKind;
 use std::alloc::Global;
 
 /// The lowest version of the format.

@@ -2,21 +2,9 @@
 ghost use Rattle.std.specs.Prelude.{◌≡◌};
 ghost use Rattle.bytecode_listing.specs.declared.error.ReadError.TheVariants.{Memory};
 
+use refusals::FaultKind;
 use std::alloc::{AllocError, AllocFailed};
 use thiserror::Error;
-
-/// What is wrong at the fault of a listing.
-#[derive(Clone, Copy, Debug)]
-pub enum FaultKind {
-    /// A token that isn't allowed there, or the end if there is no token.
-    Misplaced,
-    /// A label that appears a second time.
-    SecondLabel,
-    /// A name that isn't a label.
-    NoLabel,
-    /// The listed program exceeds the limits of programs.
-    Limits,
-}
 
 /// Why a listing isn't a program. [`crate::assemble`] returns it.
 #[derive(Debug, Drop, Error)]

@@ -54,5 +54,5 @@ mod wording;
 mod writing;
 
 pub use assembling::assemble;
-pub use error::{FaultKind, ListingError};
+pub use error::ListingError;
 pub use writing::{disassemble, disassemble_accepted, disassemble_refused, put_instruction};

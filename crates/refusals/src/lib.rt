@@ -19,6 +19,8 @@
 #![tactic(auto)]
 
 mod causes;
+mod fault_kind;
 mod refusal;
 
+pub use fault_kind::FaultKind;
 pub use refusal::Refusal;

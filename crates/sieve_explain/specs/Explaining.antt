@@ -4,7 +4,7 @@ use Rattle.std.specs.Fmt.{decimal}
 use Rattle.std.specs.List.{Contains, slice_get}
 use Rattle.std.specs.Option.{option_or}
 use Rattle.octets.specs.Limits.{max_script}
-use Rattle.bytecode_listing.specs.declared.error.FaultKind.{FaultKind}
+use Rattle.refusals.specs.declared.fault_kind.FaultKind.{FaultKind}
 use Rattle.refusals.specs.Scripts.{IsScriptRefusal}
 use Rattle.refusals.specs.declared.refusal.Refusal.{Refusal}
 use Rattle.refusals.specs.declared.refusal.Refusal.TheVariants as refused

@@ -2,8 +2,8 @@
 use Rattle.std.specs.Prelude.{ℕ, suc, ◌^◌, ◌-◌, ◌==◌, nat_lt, ◌&&◌, ◌||◌, if◌then◌else◌, Bool, List, [], ◌∷◌, drop, length, take, take_while, slice_index, slice_range, bytes_eq, codes}
 use Rattle.std.specs.Char.{is_ascii_alphabetic, is_ascii_digit}
 use Rattle.octets.specs.Limits.{max_nesting, max_script}
-use Rattle.bytecode_listing.specs.declared.error.FaultKind.{FaultKind}
-use Rattle.bytecode_listing.specs.declared.error.FaultKind.TheVariants.{Misplaced, SecondLabel, NoLabel, Limits}
+use Rattle.refusals.specs.declared.fault_kind.FaultKind.{FaultKind}
+use Rattle.refusals.specs.declared.fault_kind.FaultKind.TheVariants.{Misplaced, SecondLabel, NoLabel, Limits}
 use Rattle.sieve_check.specs.Rules.{max_reasons}
 use Rattle.sieve_lexer.specs.Classes.{begins_identifier}
 use Rattle.sieve_lexer.specs.declared.token.Token.{Token}

@@ -24,9 +24,8 @@ use crate::notes::{MAX_NOTES, Noted, more_notes_sentence, note_sentence, notes_o
 use crate::reasons::{bare_word, fault_sentence};
 use crate::remarks::{Source, push_note_if, push_remark, told};
 use crate::sentence::plain;
-use bytecode_listing::FaultKind;
 use readable_text::places::around;
-use refusals::Refusal;
+use refusals::{FaultKind, Refusal};
 use sieve_check::{MAX_REASONS, ReasonKind, Refused, reasons_of};
 use sieve_lexer::laws::tokens_have_no_fault;
 use sieve_lexer::{LexicalError, MAX_SCRIPT, Token, tokens};

@@ -4,7 +4,7 @@
 ghost use Rattle.std.specs.Prelude.{◌≡◌, ◌≤◌, ℕ, false, nat_lt, length, IsTrue, List, None, Option, Some};
 ghost use Rattle.std.specs.Char.{is_ascii_uppercase};
 ghost use Rattle.std.specs.List.{All, list_any};
-ghost use Rattle.bytecode_listing.specs.declared.error.FaultKind.{FaultKind};
+ghost use Rattle.refusals.specs.declared.fault_kind.FaultKind.{FaultKind};
 ghost use Rattle.glob_match.specs.Comparison.{is_match};
 ghost use Rattle.glob_match.specs.Containment.{contains_match};
 ghost use Rattle.glob_match.specs.declared.comparator.Comparator.{Comparator};

@@ -1,6 +1,6 @@
 use Rattle.std.proofs.Common.{◌≡◌, ℕ, List, sym, subst}
 use Rattle.std.proofs.lemmas.Result.{IfErr-weaker}
-use Rattle.bytecode_listing.specs.declared.error.FaultKind.{FaultKind}
+use Rattle.refusals.specs.declared.fault_kind.FaultKind.{FaultKind}
 use Rattle.bytecode_listing.specs.declared.error.ListingError.{ListingError}
 use Rattle.bytecode_listing.specs.declared.error.ListingError.TheVariants.{Memory, Fault}
 use Rattle.bytecode_listing.specs.Items.{FaultsAt, Lists}
