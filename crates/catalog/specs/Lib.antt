@@ -12,3 +12,5 @@ pub mod Lines
 pub mod Index
 -- private: what one part of a message adds to it
 pub mod Adding
+-- the text of a catalog
+pub mod Catalog

@@ -21,14 +21,14 @@ stored_place digests entry = option_map (λ part. record { number = entry.number
 abbrev pub stored_in : List (List ℕ) → List PartEntry → List Place
 stored_in digests entries = filter_map (stored_place digests) entries
 
--- a message that is an entry: the number of the entry, and the message
+-- a message that is an entry: the number of the entry, and the digests of the contents of its parts
 pub record Numbered : Type 0 where
   pub number : ℕ
-  pub mail : Mail
+  pub digests : List (List ℕ)
 
 -- the number of a message and its first part with this content, if there is one
 abbrev pub message_place : List ℕ → Numbered → Option Place
-message_place digest message = option_map (λ part. record { number = message.number; part = part }) (place_of (digests_of message.mail) digest)
+message_place digest message = option_map (λ part. record { number = message.number; part = part }) (place_of message.digests digest)
 
 -- those of all messages, in their order
 abbrev pub messages_with : List ℕ → List Numbered → List Place

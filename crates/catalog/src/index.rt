@@ -10,12 +10,10 @@ ghost use Rattle.std.specs.Option.{option_and_then};
 ghost use Rattle.std.specs.Ordering.{nat_cmp};
 ghost use Rattle.catalog.specs.Adding.{at_slots, first_with, is_new, with_slots};
 ghost use Rattle.catalog.specs.Index.{IsIndex, found, is_stored, slots_from};
-ghost use Rattle.catalog.specs.Stored.{Numbered, digests_of, messages_with, stored_in, stored_place};
+ghost use Rattle.catalog.specs.Stored.{Numbered, messages_with, stored_in, stored_place};
 ghost use Rattle.catalog.specs.declared.entry.PartEntry.{PartEntry};
 
 use crate::entry::{PartEntry, Place};
-use crate::stored::part_digests;
-use mime_decode::Message;
 use std::alloc::{AllocError, Global};
 use std::collections::BTreeMap;
 
@@ -51,11 +49,8 @@ impl PartIndex {
         })
     }
 
-    /// Adds a message whose entry has this number. Returns the entries that have the content of a part of it, in their
-    /// order, each with the first such part. Contents are compared by their SHA-256. A part's content is what
-    /// [`Message::content`] returns.
-    ///
-    /// Each part is decoded and hashed once, or not at all if there are no entries.
+    /// Adds a message whose entry has this number, and whose parts have contents with these digests, in their order.
+    /// Returns the entries that have one of the digests, in their order, each with the first such part.
     ///
     /// # Errors
     ///
@@ -64,27 +59,17 @@ impl PartIndex {
         &mut self,
         alloc: Global,
         number: u32,
-        message: &Message<'_>,
+        digests: &[[u8; 32]],
     ) -> Result<Vec<Place>, AllocError>
         ensures stored { (entries : List PartEntry) (messages : List Numbered)
             → IsIndex self.old entries messages
-            → IfOk result (λ stored. stored.items ≡ stored_in (digests_of message.now) entries) }
+            → IfOk result (λ stored. stored.items ≡ stored_in digests.now entries) }
         ensures added { (entries : List PartEntry) (messages : List Numbered)
             → IsIndex self.old entries messages
             → OnOk result (IsIndex self.new entries
-            (messages ++ record { number = number; mail = message.now } ∷ [])) }
+            (messages ++ record { number = number; digests = digests.now } ∷ [])) }
     {
-        if self.entries.is_empty() {
-            return Ok(Vec::new(alloc));
-        }
-        let digests = part_digests(alloc, message)?;
-        let places = add_digests(
-            alloc,
-            &self.entries,
-            &mut self.messages,
-            number,
-            digests.as_slice(),
-        )?;
+        let places = add_digests(alloc, &self.entries, &mut self.messages, number, digests)?;
         in_order(alloc, &places)
     }
 

@@ -21,7 +21,7 @@ use Rattle.mime_tree.specs.PartTree.{Stretch, children_of, default_below, media_
 use Rattle.mime_tree.specs.PartTree as tree
 use Rattle.mime_decode.specs.Mail.{Part, mail_of, part_of}
 use Rattle.part_store.specs.Entries.{Draft, Entries, Entry, is_at, numbered}
-use Rattle.depot_actions.specs.DepotState.{Accepts, Command, Deliver, Export, ListAll, ListSince, Migrate, ProgramOf, Remove, Reply, SetCode, SetScript, filed}
+use Rattle.depot_actions.specs.DepotState.{Accepts, Catalog, Command, Deliver, Export, ListAll, ListSince, Migrate, ProgramOf, Remove, Reply, SetCode, SetScript, filed}
 use Rattle.depot_actions.specs.Drafts.{draft_of_action, drafts_of, stored_draft}
 use Rattle.depot_actions.specs.History.{AreSteps, Call, IsStep}
 use Rattle.depot_actions.specs.PlainMedia.{HavePlainMedia, is_one_line}
@@ -209,6 +209,7 @@ accepted_plain before after (Deliver user message) reply accepts have =
     subst HavePlainMedia (sym accepts.step.filed) (filed_plain user drafts before (drafts_plain message accepts.step.actions) have)
 accepted_plain before after (ListAll user) reply accepts have = subst HavePlainMedia (sym accepts.step.1) have
 accepted_plain before after (ListSince user number) reply accepts have = subst HavePlainMedia (sym accepts.step.1) have
+accepted_plain before after (Catalog user number) reply accepts have = subst HavePlainMedia (sym accepts.step.1) have
 accepted_plain before after (ProgramOf user) reply accepts have = subst HavePlainMedia (sym accepts.step.1) have
 accepted_plain before after (Export user number encoding) reply accepts have = subst HavePlainMedia (sym accepts.step.3) have
 accepted_plain before after (Remove user number) reply accepts have =

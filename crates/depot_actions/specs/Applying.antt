@@ -10,7 +10,7 @@ use Rattle.part_store.specs.Standing.{LeavesUnchanged}
 use Rattle.refusals.specs.declared.refusal.Refusal.{Refusal}
 use Rattle.depot_actions.specs.Causes.{IsCause, IsFault, MayRefuse}
 use Rattle.depot_actions.specs.Deliveries.{AreRefused, DoesAll, MayLeaveAll, MayRefuseAll}
-use Rattle.depot_actions.specs.DepotState.{Command, Deliver, Does, Export, ListAll, ListSince, MayLeave, Migrate, ProgramOf, Remove, Reply, SetCode, SetScript}
+use Rattle.depot_actions.specs.DepotState.{Catalog, Command, Deliver, Does, Export, ListAll, ListSince, MayLeave, Migrate, ProgramOf, Remove, Reply, SetCode, SetScript}
 use Rattle.depot_actions.specs.declared.deliveries.RefusedDelivery.{RefusedDelivery}
 
 -- the command changes nothing, whatever comes of it
@@ -20,6 +20,7 @@ only_looks (SetCode user program) = false
 only_looks (Deliver user message) = false
 only_looks (ListAll user) = true
 only_looks (ListSince user number) = true
+only_looks (Catalog user number) = true
 only_looks (ProgramOf user) = true
 only_looks (Export user number encoding) = true
 only_looks (Remove user number) = false

@@ -10,16 +10,16 @@ use Rattle.mime_decode.specs.Mail.{IsReadable, mail_of}
 use Rattle.sieve_engine.specs.Execution.{IsChecked, IsProgramRefusal, IsUnread}
 use Rattle.refusals.specs.Scripts.{IsScriptRefusal}
 use Rattle.sieve_engine.specs.Evaluation.{IsCompiled}
-use Rattle.part_store.specs.Entries.{AreProgramsOf, Entries, Listing, UserProgram, entries_of, listing_of, with_program}
+use Rattle.part_store.specs.Entries.{AreProgramsOf, Entries, Entry, Listing, UserProgram, entries_of, listing_of, with_program}
 use Rattle.part_store.specs.Filing.{Collides, HasRoom}
 use Rattle.part_store.specs.Refusals.{HasFailed, HasNoUserRoom, HaveNoUserRoom, LackRoom}
 use Rattle.part_store.specs.Totals.{octets_of}
 use Rattle.part_store.specs.Tables.{contents_tree}
-use Rattle.part_store.specs.Standing.{HasNone, Stands}
+use Rattle.part_store.specs.Standing.{HasNone, IsEntryAt, Stands}
 use Rattle.part_store.specs.Verifying.{IsAltered}
 use Rattle.refusals.specs.declared.refusal.Refusal.{Refusal}
 use Rattle.refusals.specs.declared.refusal.Refusal.TheVariants.{Memory, NoSuchEntry, NumberFull, Collision, Database, UserName, Write}
-use Rattle.depot_actions.specs.DepotState.{AreActions, Command, SetScript, SetCode, Deliver, Export, Remove, Migrate, IsNamed}
+use Rattle.depot_actions.specs.DepotState.{AreActions, Catalog, Command, SetScript, SetCode, Deliver, Export, Remove, Migrate, IsNamed, is_message}
 use Rattle.depot_actions.specs.Drafts.{drafts_of}
 use Rattle.depot_actions.specs.Renewing.{AreRenewals}
 
@@ -94,9 +94,14 @@ abbrev pub IsSpoilt : Option (List ℕ) → Type 0
 IsSpoilt None = ⊥
 IsSpoilt (Some program) = (refusal : Refusal) × (refusal ≢ Memory) × IsProgramRefusal program refusal
 
+-- the entry is a message, and its octets can't be read as one
+abbrev pub IsNoMessage : Entry → Type 0
+IsNoMessage entry = IsTrue (is_message entry.kind) × (IsReadable entry.octets → ⊥)
+
 -- What may keep a store that works from a command: what is to be put in has no room, where its
--- numbers suffice; a stored program is spoilt; or the octets that are to be exported were altered. Where a command
--- only lists, reads a program or removes, nothing does.
+-- numbers suffice; a stored program is spoilt; the octets that are to be exported, or those of an entry of a catalog,
+-- were altered; or an entry of a catalog that is a message can't be read as one. Where a command only lists, reads a
+-- program or removes, nothing does.
 abbrev pub IsHindered : Command → Entries → Trees → Type 0
 IsHindered (SetScript user script) before db = (code : Code) × IsCompiled script code
     × HasNoUserRoom user (with_program user (spelling code) before) db
@@ -106,6 +111,8 @@ IsHindered (Deliver user message) before db =
     ⊎ ((actions : List Action) × AreActions (before.programs user) (mail_of message) actions
     × LackRoom user (drafts_of (mail_of message) actions) before db)
 IsHindered (Export user number encoding) before db = IsAltered db user number
+IsHindered (Catalog user number) before db =
+    (entry : Entry) × IsEntryAt before user entry.number entry × (IsAltered db user entry.number ⊎ IsNoMessage entry)
 IsHindered Migrate before db =
     ((user : List ℕ) × IsSpoilt (before.programs user))
     ⊎ ((stored : List UserProgram) × (renewed : List UserProgram) × AreProgramsOf before stored

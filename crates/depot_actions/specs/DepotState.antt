@@ -1,7 +1,7 @@
 -- The commands of a depot: what each replies, and what it leaves. What a depot holds is the
 -- `Entries` of its store: the entries, and of each user the program, if he has one, and the last
 -- number that was given.
-use Rattle.std.specs.Prelude.{◌≡◌, ◌⊎◌, ◌==◌, ℕ, ◌+◌, Bool, not, IfSome, IsTrue, List, [], ◌∷◌, filter, length, map, Option, None, Some}
+use Rattle.std.specs.Prelude.{◌≡◌, ◌⊎◌, ◌==◌, ℕ, ◌+◌, Bool, true, false, not, IfSome, IsTrue, List, [], ◌∷◌, filter, length, map, Option, None, Some}
 use Rattle.std.specs.List.{AllZip}
 use Rattle.sqlite.specs.State.{State}
 use Rattle.sqlite_trees.specs.Tree.{Trees}
@@ -16,13 +16,17 @@ use Rattle.sieve_engine.specs.Evaluation.{IsCompiled}
 use Rattle.part_store.specs.Entries.{AreProgramsOf, Draft, Entries, Entry, Listing, UserProgram, entries_of, entries_since, listing_of, numbered, with_entries, with_program, without_entry}
 use Rattle.part_store.specs.Filing.{HasRoom}
 use Rattle.part_store.specs.Standing.{DiskFailed, IsEntryAt, IsStored, Stands}
+use Rattle.part_store.specs.declared.entry.Kind.{Kind}
+use Rattle.part_store.specs.declared.entry.Kind.TheVariants.{Message, Part}
+use Rattle.catalog.specs.Catalog.{Filed, catalog}
 use Rattle.depot_actions.specs.Drafts.{drafts_of}
 use Rattle.encodings.specs.Texts.{text_of}
 use Rattle.depot_actions.specs.Users.{is_user_name}
 use Rattle.encodings.specs.declared.encoding.Encoding.{Encoding}
 
 -- What a depot is asked for, by a user: to store the code of a script, or a program; to file a
--- message; for the list of his entries, or of those with numbers above a given one; for his program;
+-- message; for the list of his entries, or of those with numbers above a given one; for the catalog
+-- of his entries with numbers above a given one; for his program;
 -- for the text of an entry's octets in an encoding; and to remove an entry. And what it is asked for
 -- by whoever keeps it: to give all programs the latest version.
 pub data Command : Type 0 where
@@ -31,6 +35,7 @@ pub data Command : Type 0 where
   Deliver : List ℕ → List ℕ → Command
   ListAll : List ℕ → Command
   ListSince : List ℕ → ℕ → Command
+  Catalog : List ℕ → ℕ → Command
   ProgramOf : List ℕ → Command
   Export : List ℕ → ℕ → Encoding → Command
   Remove : List ℕ → ℕ → Command
@@ -52,10 +57,16 @@ user_of (SetCode user program) = Some user
 user_of (Deliver user message) = Some user
 user_of (ListAll user) = Some user
 user_of (ListSince user number) = Some user
+user_of (Catalog user number) = Some user
 user_of (ProgramOf user) = Some user
 user_of (Export user number encoding) = Some user
 user_of (Remove user number) = Some user
 user_of Migrate = None
+
+-- the entry is a message, not a part
+abbrev pub is_message : Kind → Bool
+is_message Message = true
+is_message Part = false
 
 -- where a command has a user, he has the name of one
 abbrev pub IsNamed : Command → Type 0
@@ -103,6 +114,11 @@ pub record Migrates (before : Entries) (reply : Reply) (after : Entries) : Type 
   pub entries : after.entries ≡ before.entries
   pub lasts : after.lasts ≡ before.lasts
 
+-- an entry of the store, as a catalog sees it
+abbrev pub filed_of : Entry → Filed
+filed_of x =
+    record { number = x.number; folder = x.folder; name = x.name; media = x.media; is_message = is_message x.kind; octets = x.octets }
+
 -- What a command replies, and what it leaves: a script's code, or a program, is the user's program;
 -- a message is delivered; an entry is gone, and the last number stays; all programs are migrated;
 -- and the others change nothing.
@@ -115,6 +131,8 @@ Steps before (Deliver user message) reply after = Delivers before user message r
 Steps before (ListAll user) reply after = (reply ≡ Listed (map listing_of (entries_of user before))) × (after ≡ before)
 Steps before (ListSince user number) reply after =
     (reply ≡ Listed (map listing_of (entries_since user number before))) × (after ≡ before)
+Steps before (Catalog user number) reply after =
+    (reply ≡ Text (catalog number (map filed_of (entries_of user before)))) × (after ≡ before)
 Steps before (ProgramOf user) reply after = (reply ≡ Program (before.programs user)) × (after ≡ before)
 Steps before (Export user number encoding) reply after =
     (entry : Entry) × IsEntryAt before user number entry × (reply ≡ Text (text_of encoding entry.octets))

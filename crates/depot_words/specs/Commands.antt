@@ -1,5 +1,5 @@
 -- The commands of the program, and their arguments.
-use Rattle.std.specs.Prelude.{◌≡◌, ℕ, pos, List, [], ◌∷◌, Option, Some, None, codes, map, true}
+use Rattle.std.specs.Prelude.{◌≡◌, ℕ, pos, List, [], ◌∷◌, Bool, true, false, Option, Some, None, codes, map}
 use Rattle.std.specs.Borrow.{Bor}
 use Rattle.std.specs.List.{fold}
 use Rattle.clap.specs.Words.{App, Rule, Text, new_app, new_rule, with_rule, with_subcommand}
@@ -7,12 +7,14 @@ use Rattle.clap.specs.declared.builder.value_parser.ValueParser.{ValueParser}
 use Rattle.clap.specs.declared.builder.value_parser.ValueParser.TheVariants as parsers
 use Rattle.octets.specs.Limits.{max_entry_number, max_message, max_parts}
 
--- what the text of an argument has to be: any, the number of an entry, a number from the least to the most, or the name of an encoding
+-- what the text of an argument has to be: any, the number of an entry, a number from the least to the most, or the name of an encoding; an
+-- optional one can be left out
 pub data Range : Type 0 where
   any_text : Range
   entry_number : Range
   number_from : ℕ → ℕ → Range
   encoding_name : Range
+  optional : Range → Range
 
 -- the name of an argument, and its range
 abbrev pub Argument : Type 0
@@ -58,6 +60,9 @@ number = (codes "NUMBER", entry_number)
 abbrev pub last_seen : Argument
 last_seen = (codes "NUMBER", number_from 0 max_entry_number)
 
+abbrev pub optional_last_seen : Argument
+optional_last_seen = (codes "NUMBER", optional (number_from 0 max_entry_number))
+
 abbrev pub encoding : Argument
 encoding = (codes "ENCODING", encoding_name)
 
@@ -83,6 +88,7 @@ commands =
     ∷ (codes "deliver", depot ∷ user ∷ message ∷ [])
     ∷ (codes "list", depot ∷ user ∷ [])
     ∷ (codes "since", depot ∷ user ∷ last_seen ∷ [])
+    ∷ (codes "catalog", depot ∷ user ∷ optional_last_seen ∷ [])
     ∷ (codes "export", depot ∷ user ∷ number ∷ encoding ∷ [])
     ∷ (codes "remove", depot ∷ user ∷ number ∷ [])
     ∷ (codes "migrate", depot ∷ [])
@@ -110,10 +116,16 @@ parser_for names any_text = None
 parser_for names entry_number = Some (parsers.Signed (pos 1) (pos max_entry_number))
 parser_for names (number_from least most) = Some (parsers.Unsigned least most)
 parser_for names encoding_name = Some (parsers.Names names)
+parser_for names (optional range) = parser_for names range
 
--- an argument that has to be there, and whose text is in its range
+-- whether an argument of this range has to be there
+abbrev pub is_required : Range → Bool
+is_required (optional range) = false
+is_required _ = true
+
+-- an argument whose text is in its range
 abbrev pub rule_for : Texts → Argument → Rule
-rule_for names argument = record (new_rule argument.0) { parser = parser_for names argument.1; required = true }
+rule_for names argument = record (new_rule argument.0) { parser = parser_for names argument.1; required = is_required argument.1 }
 
 -- a command with one more argument
 abbrev pub with_argument : Texts → App → Argument → App

@@ -4,7 +4,7 @@ use Rattle.clap.specs.Words.{Text}
 use Rattle.depot_words.specs.Commands.{Arguments}
 use Rattle.depot_words.specs.Commands as kinds
 use Rattle.depot_words.specs.declared.arguments.Argument.{Argument}
-use Rattle.depot_words.specs.declared.arguments.Argument.TheVariants.{AnyFile, Depot, Encoding, Filter, LastSeen, Listing, Message, Number, Octets, Out, Parts, Program, Script, User}
+use Rattle.depot_words.specs.declared.arguments.Argument.TheVariants.{AnyFile, Depot, Encoding, Filter, LastSeen, Listing, Message, Number, Octets, OptionalLastSeen, Out, Parts, Program, Script, User}
 use Rattle.depot_words.specs.declared.commands.Row.{Row}
 
 abbrev pub argument_of : Argument → kinds.Argument
@@ -13,6 +13,7 @@ argument_of AnyFile = kinds.depot
 argument_of User = kinds.user
 argument_of Number = kinds.number
 argument_of LastSeen = kinds.last_seen
+argument_of OptionalLastSeen = kinds.optional_last_seen
 argument_of Encoding = kinds.encoding
 argument_of Script = kinds.script
 argument_of Filter = kinds.file

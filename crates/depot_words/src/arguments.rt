@@ -3,8 +3,10 @@
 // The number of an entry is read as clap reads it: also with a plus sign and leading zeros. If clap's rules exclude a
 // case, the code still has an arm for it: a missing required argument reads as the empty text, an unknown name of an
 // encoding as raw, an unknown command as no words. Cases show that clap lets none through (`cases/words.t`).
-ghost use Rattle.std.specs.Prelude.{◌≡◌, false, true};
+ghost use Rattle.std.specs.Prelude.{◌≡◌, Some, codes, false, true};
 ghost use Rattle.clap.specs.Words.{new_rule, rule_of};
+ghost use Rattle.clap.specs.declared.builder.value_parser.ValueParser.TheVariants.{Unsigned};
+ghost use Rattle.octets.specs.Limits.{max_entry_number};
 ghost use Rattle.depot_words.specs.Commands.{rule_for};
 ghost use Rattle.depot_words.specs.Rows.{argument_of};
 
@@ -23,6 +25,8 @@ pub enum Argument {
     Number,
     /// NUMBER of `since`: the highest number of an entry that was seen, from 0 to 4,294,967,295.
     LastSeen,
+    /// NUMBER of `catalog`: the same; it can be left out.
+    OptionalLastSeen,
     /// ENCODING: the name of an encoding.
     Encoding,
     /// SCRIPT: the file of a Sieve script.
@@ -73,12 +77,15 @@ impl Argument {
                 "The number of an entry, as `list` prints it",
             )
             .value_parser(value_parser!(u32).range(1..)),
-            Argument::LastSeen => required(
+            Argument::LastSeen => last_seen(
                 alloc,
-                "NUMBER",
                 "Only entries above this number are listed: 0 to 4294967295",
             )
-            .value_parser(value_parser!(u64).range(0..=4_294_967_295)),
+            .required(true),
+            Argument::OptionalLastSeen => last_seen(
+                alloc,
+                "Only entries above this number are described: 0 to 4294967295",
+            ),
             Argument::Encoding => required(alloc, "ENCODING", "The encoding").value_parser(
                 encodings.names,
             ),
@@ -126,4 +133,14 @@ fn required<'a>(alloc: Global, name: &'static str, help: &'static str) -> Arg<'a
     ensures local { result.global ≡ false }
 {
     Arg::new(alloc, name).required(true).help(help)
+}
+
+// NUMBER: the highest number of an entry that was seen. It can be left out.
+fn last_seen<'a>(alloc: Global, help: &'static str) -> Arg<'a>
+    ensures rule { rule_of result ≡ record (new_rule (codes "NUMBER")) { parser = Some (Unsigned 0 max_entry_number) } }
+    ensures local { result.global ≡ false }
+{
+    Arg::new(alloc, "NUMBER")
+        .value_parser(value_parser!(u64).range(0..=4_294_967_295))
+        .help(help)
 }

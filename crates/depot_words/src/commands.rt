@@ -139,6 +139,12 @@ const COMMANDS: &[Row] = &[
         ending: help::SINCE,
     },
     Row {
+        word: "catalog",
+        arguments: &[Argument::Depot, Argument::User, Argument::OptionalLastSeen],
+        about: "Describe the entries of a user for programs, in JSON, an entry a line",
+        ending: help::CATALOG,
+    },
+    Row {
         word: "export",
         arguments: &[
             Argument::Depot,

@@ -224,6 +224,16 @@ pub const SINCE: &str = user_ending!(
     "1, 43 to 45"
 );
 
+/// The end of the help of `catalog`.
+pub const CATALOG: &str = user_ending!(
+    "Prints a JSON object for each entry, an entry a line, and nothing if there is none: what `list`\n\
+     prints, the SHA-256, which messages have the content of a part, and for a message its main header\n\
+     fields, its number of parts, and which entries have their contents. docs/INTERFACE.md has the\n\
+     members. With NUMBER, only entries above it are described, as `since` lists them.",
+    "depot catalog mail.depot ann",
+    "1, 43 to 45"
+);
+
 /// The end of the help of `export`.
 pub const EXPORT: &str = user_ending!(
     "Writes the entry to standard output. `raw` gives its bytes as they are.",
