@@ -7,4 +7,6 @@ pub mod MapLemmas
 pub mod SlotLemmas
 pub mod InOrder
 pub mod AddLemmas
+pub mod OutlineLemmas
+pub mod CatalogLemmas
 mod Examples

@@ -1,5 +1,5 @@
 -- The text of a catalog: the lines of a user's entries in the order of the list, each with a line break.
-use Rattle.std.specs.Prelude.{ℕ, List, [], ◌∷◌, ◌++◌, Bool, if◌then◌else◌, filter, filter_map, flat_map, length, nat_lt, Option, Some, None}
+use Rattle.std.specs.Prelude.{ℕ, List, [], ◌∷◌, ◌++◌, Bool, if◌then◌else◌, filter_map, flat_map, length, nat_lt, Option, Some, None}
 use Rattle.sha2.specs.Sha256.{sha256}
 use Rattle.mime_decode.specs.Mail.{mail_of}
 use Rattle.catalog.specs.Lines.{message_line, part_line}
@@ -46,6 +46,10 @@ line_among all filed =
     else part_line (row_of_filed filed) (messages_with (sha256 filed.octets) (messages_of all)))
     ++ 10 ∷ []
 
+-- the line of an entry above a number; nothing for another
+abbrev pub piece_of : ℕ → List Filed → Filed → List ℕ
+piece_of after all filed = if nat_lt after filed.number then line_among all filed else []
+
 -- the catalog of the entries whose numbers are above a number; which entries belong together is looked for among all of them
 abbrev pub catalog : ℕ → List Filed → List ℕ
-catalog after all = flat_map (line_among all) (filter (λ (filed : Filed). nat_lt after filed.number) all)
+catalog after all = flat_map (piece_of after all) all

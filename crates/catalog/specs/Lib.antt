@@ -14,3 +14,5 @@ pub mod Index
 pub mod Adding
 -- the text of a catalog
 pub mod Catalog
+-- private: what is kept of an entry while a catalog is made
+pub mod Keeping

@@ -28,13 +28,17 @@ common_members row kind =
     member (codes "octets") (number (unsigned row.octets)) (
     member (codes "sha256") (string (encode_lower row.digest)) no_members))))))
 
--- that of a message also says how many parts it has, where they are stored, and its first fields
-abbrev pub message_value : Row → Mail → List Place → Data
-message_value row mail stored =
+-- that of a message also says how many parts it has, where they are stored, and its fields
+abbrev pub message_object : Row → ℕ → Data → List Place → Data
+message_object row parts fields stored =
     object (
-    put (codes "parts") (number (unsigned (length mail.parts))) (
+    put (codes "parts") (number (unsigned parts)) (
     put (codes "stored") (places_value stored) (
-    put (codes "fields") (fields_value (own_fields mail.parts)) (common_members row (codes "message")))))
+    put (codes "fields") fields (common_members row (codes "message")))))
+
+-- the fields are the first of their names
+abbrev pub message_value : Row → Mail → List Place → Data
+message_value row mail stored = message_object row (length mail.parts) (fields_value (own_fields mail.parts)) stored
 
 -- that of a part also says which messages have a part with its content
 abbrev pub part_value : Row → List Place → Data

@@ -17,6 +17,21 @@ pub struct Entry<'a> {
     pub digest: [u8; 32],
 }
 
+/// An entry in the list of a user's entries. The caller makes it; its texts are borrowed.
+#[derive(Clone, Copy)]
+pub struct Listed<'a> {
+    /// The number.
+    pub number: u32,
+    /// The folder, as bytes. It can be empty and hold any bytes.
+    pub folder: &'a [u8],
+    /// The name, as bytes: a part's name, empty if it has none.
+    pub name: &'a [u8],
+    /// The media type, as bytes, for example `text/plain`.
+    pub media: &'a [u8],
+    /// Whether the entry is a message, not a part.
+    pub is_message: bool,
+}
+
 /// An entry of a part, as [`crate::PartIndex`] needs it. The caller makes it.
 #[derive(Clone, Copy, Drop)]
 pub struct PartEntry {

@@ -49,8 +49,23 @@ impl PartIndex {
         })
     }
 
+    /// Returns the entries that have one of the digests of a message's parts, in the order of the entries, each with the
+    /// first such part.
+    ///
+    /// # Errors
+    ///
+    /// `AllocError` if memory is refused.
+    pub fn stored_in(&self, alloc: Global, digests: &[[u8; 32]]) -> Result<Vec<Place>, AllocError>
+        ensures { (entries : List PartEntry) (messages : List Numbered)
+            → IsIndex self.now entries messages
+            → IfOk result (λ stored. stored.items ≡ stored_in digests.now entries) }
+    {
+        let mut messages = BTreeMap::new(alloc);
+        let places = add_digests(alloc, &self.entries, &mut messages, 0, digests)?;
+        in_order(alloc, &places)
+    }
+
     /// Adds a message whose entry has this number, and whose parts have contents with these digests, in their order.
-    /// Returns the entries that have one of the digests, in their order, each with the first such part.
     ///
     /// # Errors
     ///
@@ -60,17 +75,14 @@ impl PartIndex {
         alloc: Global,
         number: u32,
         digests: &[[u8; 32]],
-    ) -> Result<Vec<Place>, AllocError>
-        ensures stored { (entries : List PartEntry) (messages : List Numbered)
-            → IsIndex self.old entries messages
-            → IfOk result (λ stored. stored.items ≡ stored_in digests.now entries) }
-        ensures added { (entries : List PartEntry) (messages : List Numbered)
+    ) -> Result<(), AllocError>
+        ensures { (entries : List PartEntry) (messages : List Numbered)
             → IsIndex self.old entries messages
             → OnOk result (IsIndex self.new entries
             (messages ++ record { number = number; digests = digests.now } ∷ [])) }
     {
-        let places = add_digests(alloc, &self.entries, &mut self.messages, number, digests)?;
-        in_order(alloc, &places)
+        add_digests(alloc, &self.entries, &mut self.messages, number, digests)?;
+        Ok(())
     }
 
     /// Returns the messages that have a part with this content, in the order in which they were added, each with the

@@ -27,16 +27,22 @@
 //! `fields_are_the_first_of_their_names`.
 #![tactic(auto)]
 
+mod catalog;
 mod entry;
 mod fields;
 mod index;
+mod keeping;
 pub mod laws;
 mod line;
+mod outline;
 mod stored;
 #[cfg(test)]
 mod tests;
 mod text;
 
-pub use entry::{Entry, PartEntry, Place};
+pub use catalog::catalog_text;
+pub use entry::{Entry, Listed, PartEntry, Place};
 pub use index::{PartIndex, Slot};
+pub use keeping::{Kept, keep};
 pub use line::{message_line, part_line};
+pub use outline::Outline;

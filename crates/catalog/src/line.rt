@@ -1,22 +1,24 @@
 // The lines of messages and parts.
-ghost use Rattle.std.specs.Prelude.{◌≡◌, codes, IfOk, IsUtf8, Some};
+ghost use Rattle.std.specs.Prelude.{◌≡◌, codes, length, IfOk, IsUtf8, Some};
 ghost use Rattle.serde_json.specs.Read.{read};
 ghost use Rattle.serde_json.specs.View.{members_view, view};
-ghost use Rattle.catalog.specs.Lines.{common_members, message_line, message_value, part_line, part_value, place_value, places_value};
+ghost use Rattle.mime_decode.specs.Mail.{Mail};
+ghost use Rattle.catalog.specs.Keeping.{outlined, outlined_as};
+ghost use Rattle.catalog.specs.Lines.{common_members, message_line, message_object, message_value, part_line, part_value, place_value, places_value};
 ghost use Rattle.catalog.specs.Rows.{row_of};
 
 use crate::entry::{Entry, Place};
-use crate::fields::{fields_value, own_fields};
+use crate::outline::Outline;
 use crate::text::text_value;
-use mime_decode::Message;
 use serde_json::{Map, Value, json, put};
 use std::alloc::{AllocError, Global};
 
 /// Returns the line of a message, without a line break: a JSON object with the members `number`, `kind`, `folder`, `name`,
 /// `media`, `octets`, `sha256`, `parts`, `stored` and `fields`, in the order of their names.
 ///
-/// `stored` are entries of the message's parts, as [`crate::PartIndex`] returns them. `fields` has the first From, To,
-/// Cc, Subject, Date, Message-ID, In-Reply-To and References of the message, unfolded, each under its name.
+/// `stored` are entries of the message's parts, as [`PartIndex`](crate::index::PartIndex) returns them. `fields` has the
+/// first From, To, Cc, Subject, Date, Message-ID, In-Reply-To and References of the message, unfolded, each under its
+/// name.
 ///
 /// # Errors
 ///
@@ -24,16 +26,17 @@ use std::alloc::{AllocError, Global};
 pub fn message_line(
     alloc: Global,
     entry: &Entry<'_>,
-    message: &Message<'_>,
+    outline: &Outline,
     stored: &[Place],
 ) -> Result<Vec<u8>, AllocError>
-    ensures text { IfOk result (λ line. line.items
-        ≡ message_line (row_of entry.now) message.now stored.now) }
+    ensures text { (mail : Mail) → outlined_as outline.now ≡ outlined mail
+        → IfOk result (λ line. line.items ≡ message_line (row_of entry.now) mail stored.now) }
     ensures utf8 { IfOk result (λ line. IsUtf8 line.items) }
-    ensures read_back { IfOk result (λ line. read line.items
-        ≡ Some (message_value (row_of entry.now) message.now stored.now)) }
+    ensures read_back { (mail : Mail) → outlined_as outline.now ≡ outlined mail
+        → IfOk result (λ line. read line.items
+        ≡ Some (message_value (row_of entry.now) mail stored.now)) }
 {
-    message_value(alloc, entry, message, stored)?.to_vec(alloc)
+    message_value(alloc, entry, outline, stored)?.to_vec(alloc)
 }
 
 /// Returns the line of a part, without a line break: a JSON object with the members `number`, `kind`, `folder`, `name`,
@@ -61,17 +64,22 @@ pub fn part_line(
 fn message_value(
     alloc: Global,
     entry: &Entry<'_>,
-    message: &Message<'_>,
+    outline: &Outline,
     stored: &[Place],
 ) -> Result<Value, AllocError>
     ensures { IfOk result (λ value. view value
-        ≡ message_value (row_of entry.now) message.now stored.now) }
+        ≡ message_object (row_of entry.now) (length outline.now.digests.items)
+        (view outline.now.fields) stored.now) }
 {
     let mut members = common_members(alloc, entry, "message")?;
-    let fields = fields_value(alloc, own_fields(message))?;
-    put(&mut members, alloc, "fields", fields)?;
+    put(&mut members, alloc, "fields", outline.fields.clone()?)?;
     put(&mut members, alloc, "stored", places_value(alloc, stored)?)?;
-    put(&mut members, alloc, "parts", Value::from(message.parts()))?;
+    put(
+        &mut members,
+        alloc,
+        "parts",
+        Value::from(outline.digests.len()),
+    )?;
     Ok(Value::from(members))
 }
 
