@@ -13,6 +13,13 @@ Both scripts take a lock by the file beside the depot. The names of what is save
     $ sed -n 's/^\$ //p; /^      /p' page > commands; grep -v '^\$ \|^      ' page > answers; wc -l < commands; sh commands | diff answers - && rm page commands answers
     3
 
+## the catalog that the page shows
+    $ sed -n '/^## Lines of a catalog/,/^## Standard input/s/^    //p' "$TOP/docs/INTERFACE.md" | sed 's,/tmp/,,g' > page
+    $ sed -n 's/^\$ //p' page > commands; grep -v '^\$ ' page > answers; wc -l < commands; sh commands | diff answers - && rm page commands answers
+    3
+    $ depot list mail.depot ann | wc -l
+    2
+
 ## new mail with its attachments, and no mail twice
 Only if: command -v flock # there is no flock
     $ cat > filter << 'END'
@@ -169,7 +176,7 @@ Only if: command -v flock # there is no flock
     mail.eml
     $ rm -r held in other asked saved
     $ python3 examples/attachments.py mail.depot 'no user' none
-    2> refused 44 UserName: since no user 0; depot inspect mail.depot says more
+    2> refused 44 UserName: catalog no user 0; depot inspect mail.depot says more
     [1]
     $ rm -r none
 

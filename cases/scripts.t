@@ -69,7 +69,7 @@ Only if: python3 -c 'import sqlite3' # there is no sqlite3 for python3
 
 ## forty commands, each a process of its own
     $ "$TOP/cases/forty_commands" depot
-    44 commands over one file, 0 answered otherwise
+    47 commands over one file, 0 answered otherwise
 
 ## many commands beside a plain model
     $ "$TOP/cases/history" depot

@@ -228,6 +228,68 @@ Numbers after which `since` lists, which go from 0 to 4,294,967,295. Here, too, 
     $ depot since mail.depot ann 04294967295
     none
 
+The same number of `catalog`, which can be left out. These files aren't made, either.
+
+## a catalog after what is no such number
+    $ depot catalog mail.depot ann 4294967296
+    2> error: invalid value '4294967296' for '[NUMBER]': 4294967296 is not in 0..=4294967295
+    2>
+    2> For more information, try '--help'.
+    [2]
+    $ depot catalog mail.depot ann 18446744073709551616
+    2> error: invalid value '18446744073709551616' for '[NUMBER]': number too large to fit in target type
+    2>
+    2> For more information, try '--help'.
+    [2]
+    $ depot catalog -- mail.depot ann -1
+    2> error: invalid value '-1' for '[NUMBER]': invalid digit found in string
+    2>
+    2> For more information, try '--help'.
+    [2]
+    $ depot catalog mail.depot ann one
+    2> error: invalid value 'one' for '[NUMBER]': invalid digit found in string
+    2>
+    2> For more information, try '--help'.
+    [2]
+    $ depot catalog mail.depot ann ''
+    2> error: invalid value '' for '[NUMBER]': cannot parse integer from empty string
+    2>
+    2> For more information, try '--help'.
+    [2]
+    $ test ! -e mail.depot
+
+## a catalog without a user, with a word too many, and with one that is taken for an option
+    $ depot catalog mail.depot
+    2> error: the following required arguments were not provided:
+    2>   <USER>
+    2>
+    2> Usage: depot catalog <DB> <USER> [NUMBER]
+    2>
+    2> For more information, try '--help'.
+    [2]
+    $ depot catalog mail.depot ann 1 2
+    2> error: unexpected argument '2' found
+    2>
+    2> Usage: depot catalog <DB> <USER> [NUMBER]
+    2>
+    2> For more information, try '--help'.
+    [2]
+    $ depot catalog mail.depot ann -1
+    2> error: unexpected argument '-1' found
+    2>
+    2>   tip: to pass '-1' as a value, use '-- -1'
+    2>
+    2> Usage: depot catalog <DB> <USER> [NUMBER]
+    2>
+    2> For more information, try '--help'.
+    [2]
+    $ test ! -e mail.depot
+
+## the smallest and the largest number of a catalog, with a plus sign and zeros, and none
+    $ depot catalog mail.depot ann +000
+    $ depot catalog mail.depot ann 04294967295
+    $ depot catalog mail.depot ann
+
 Other words that are no command.
 
 ## a word that isn't UTF-8
@@ -296,6 +358,7 @@ Help.
     2>   deliver      Run the filter of a user on a message, and file the result
     2>   list         List the entries of a user
     2>   since        List the entries of a user with numbers above NUMBER
+    2>   catalog      Describe the entries of a user for programs, in JSON, an entry a line
     2>   export       Write the bytes of an entry to standard output, in an encoding
     2>   remove       Remove an entry of a user
     2>   migrate      Convert the filters of all users to the latest version of the bytecode
@@ -751,6 +814,35 @@ Help.
     2> `depot inspect DB` reports what is wrong with DB.
     [2]
 
+## help catalog
+    $ depot help catalog
+    2> Describe the entries of a user for programs, in JSON, an entry a line
+    2>
+    2> Usage: depot catalog <DB> <USER> [NUMBER]
+    2>
+    2> Arguments:
+    2>   <DB>      The file of the depot; it is made if it is missing
+    2>   <USER>    The name of a user: 1 to 64 of a to z, 0 to 9, dot, underscore and hyphen
+    2>   [NUMBER]  Only entries above this number are described: 0 to 4294967295
+    2>
+    2> Options:
+    2>   -h, --help  Print help
+    2>
+    2> Prints a JSON object for each entry, an entry a line, and nothing if there is none: what `list`
+    2> prints, the SHA-256, which messages have the content of a part, and for a message its main header
+    2> fields, its number of parts, and which entries have their contents. docs/INTERFACE.md has the
+    2> members. With NUMBER, only entries above it are described, as `since` lists them.
+    2>
+    2> Example:
+    2>   depot catalog mail.depot ann
+    2>
+    2> Status 0: done. 1: refused, with the refusal's number and name on standard error.
+    2> 2: the words are not a command, or ask for help.
+    2> Refusals: 1, 43 to 45. `depot help NUMBER` explains each, and what to do.
+    2> DB comes first, then USER: the other way round a new depot is made, in a file with the user's name.
+    2> `depot inspect DB` reports what is wrong with DB.
+    [2]
+
 ## help export
     $ depot help export
     2> Write the bytes of an entry to standard output, in an encoding
@@ -891,7 +983,8 @@ Help.
     2>
     2> The lines are commands without DB:
     2>   script USER SCRIPT, code USER PROGRAM, deliver USER MESSAGE, list USER,
-    2>   since USER NUMBER, export USER NUMBER ENCODING FILE, remove USER NUMBER, migrate
+    2>   since USER NUMBER, catalog USER [NUMBER], export USER NUMBER ENCODING FILE,
+    2>   remove USER NUMBER, migrate
     2> One space separates two words. A word with a space, a quotation mark or a line break is written in
     2> quotation marks; in these \22 is a quotation mark, \5c a backslash, \0a a line break.
     2> Each answer is on standard output, with a line after it: = 0 (done), = 1 (refused), or = 2 (not a

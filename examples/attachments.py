@@ -1,11 +1,10 @@
 #!/usr/bin/env python3
 """Delivers mails, then saves new mail and its stored parts as attachments.sh does: attachments.py DB USER FOLDER [MAIL ..]
 
-Which mail a part belongs to, the answer of `deliver` says. For what others delivered it is found by SHA-256, as in attachments.sh.
+Which mail a part belongs to, the answer of `deliver` says. For what others delivered it is found in the catalog, as in attachments.sh.
 The status is 0; 65 if mails were put aside, which standard error names, and the others are filed; or 1 after an error:
 mails before it are filed.
 """
-import hashlib
 import os
 import re
 import subprocess
@@ -34,31 +33,30 @@ def deliver(depot, user, mails):
     return mail_of, aside
 
 
+def sides_of(part, mails):
+    """The last of these mails before a part that has its content, and the first one after it."""
+    known = [it.number for it in part.of if it.number in mails]
+    return max((it for it in known if it < part.number), default=None), min((it for it in known if it > part.number), default=None)
+
+
 def save(depot, user, folder, last, mail_of):
     """Saves the entries after the number `last`, and returns the last number."""
-    parts, digests, sides = {}, {}, {}
-    for entry in depot.since(user, last):
-        last = entry.number
-        place = f"{folder}/{last}/mail.eml" if entry.kind == "message" else f"{folder}/new/{last}"
-        os.makedirs(os.path.dirname(place), exist_ok=True)
-        depot.export(user, last, place)
-        if entry.kind == "message":
-            digests[last] = subprocess.run([PROGRAM, "parts", place], check=True, stdout=subprocess.PIPE).stdout.decode().split()[4::5]
-        else:
-            # what the sender wrote: other characters than some are escaped, or become underscores
-            name = re.sub(rb"[^ !#-\[\]-~]", lambda it: b"_%02x" % it[0][0], entry.name)
-            parts[last] = f"{last}-" + re.sub(r"[^A-Za-z0-9.-]", "_", name.decode())[-100:]
-    for number in parts:
-        with open(f"{folder}/new/{number}", "rb") as file:
-            digest = hashlib.sha256(file.read()).hexdigest()
-        mails = [it for it in digests if digest in digests[it]]
-        sides[number] = max((it for it in mails if it < number), default=None), min((it for it in mails if it > number), default=None)
+    entries = depot.catalog(user, last)
+    mails = {it.number for it in entries if it.kind == "message"}
+    sides = {it.number: sides_of(it, mails) for it in entries if it.kind == "part"}
     # a filter that files the mail first shows it by a part that only a mail before it has
     first = any(before and not after for before, after in sides.values())
-    for number, (before, after) in sides.items():
-        mail = mail_of.get(number) or (first and before) or after or before or "unlinked"
-        os.makedirs(f"{folder}/{mail}", exist_ok=True)
-        os.replace(f"{folder}/new/{number}", f"{folder}/{mail}/{parts[number]}")
+    for entry in entries:
+        last = entry.number
+        place = f"{folder}/{last}/mail.eml"
+        if entry.kind == "part":
+            before, after = sides[last]
+            mail = mail_of.get(last) or (first and before) or after or before or "unlinked"
+            # what the sender wrote: other characters than some are escaped, or become underscores
+            name = re.sub(rb"[^ !#-\[\]-~]", lambda it: b"_%02x" % it[0][0], entry.name).decode()
+            place = f"{folder}/{mail}/{last}-" + re.sub(r"[^A-Za-z0-9.-]", "_", name)[-100:]
+        os.makedirs(os.path.dirname(place), exist_ok=True)
+        depot.export(user, last, place)
     return last
 
 
@@ -79,13 +77,12 @@ def main(db, user, folder, *mails):
         Depot(db).close()  # there are the program and the file
         if last_given(db, user) < last:
             sys.exit(f"{db}: its numbers went back behind {last}, as in an older copy: save {user} into a new folder")
-        os.makedirs(f"{folder}/new", exist_ok=True)
+        os.makedirs(folder, exist_ok=True)
         with Depot(db) as depot:
             mail_of, aside = deliver(depot, user, mails)
             last = save(depot, user, folder, last, mail_of)
     except DepotError as fault:
         sys.exit(f"{fault}; depot inspect {db} says more")
-    os.rmdir(f"{folder}/new")
     with open(f"{folder}/last.new", "w") as last_file:
         last_file.write(f"{last}\n")
     os.replace(f"{folder}/last.new", f"{folder}/last")

@@ -1,10 +1,10 @@
 #!/bin/sh
 # Saves the new mail of a user, and what the user's filter stored of it: attachments.sh DB USER FOLDER
 #
-# A mail becomes FOLDER/NUMBER/mail.eml, and each stored part of it FOLDER/NUMBER/ITS-NUMBER-ITS-NAME. A part belongs to a mail that
-# has a part of the same SHA-256: the next one after it, because the implicit keep files a mail after its parts, or, if any new part
-# has such a mail only before it, the last one before it, because then the filter files the mail first. A part without such a mail
-# goes into FOLDER/unlinked. If two mails have the same part, and filters of both kinds delivered them, only what deliver prints
+# A mail becomes FOLDER/NUMBER/mail.eml, and each stored part of it FOLDER/NUMBER/ITS-NUMBER-ITS-NAME. The catalog has the mails that
+# contain a part. A part belongs to the next new one after it, because the implicit keep files a mail after its parts, or, if any new
+# part has such a mail only before it, to the last one before it, because then the filter files the mail first. A part without such a
+# mail goes into FOLDER/unlinked. If two mails have the same part, and filters of both kinds delivered them, only what deliver prints
 # decides (attachments.py). FOLDER/last has the number up to which all is saved, so a run that was broken off is repeated by the
 # next one. Nothing is changed in the depot.
 set -eu
@@ -24,42 +24,39 @@ ask() {
 }
 
 ask since "$db" "$user" "$last" > "$made/new"
-: > "$made/digests"
-: > "$made/stored"
+ask catalog "$db" "$user" "$last" > "$made/catalog"
 sed -n 's/^\([0-9]*\) message .*/\1/p' "$made/new" > "$made/mails"
 while read -r number; do
     mkdir -p "$folder/$number"
     ask export "$db" "$user" "$number" raw > "$folder/$number/mail.eml"
-    depot parts "$folder/$number/mail.eml" > "$made/parts"
-    awk -v number="$number" '{ print $5, number }' "$made/parts" >> "$made/digests"
 done < "$made/mails"
+
+# each part with the mails that contain it; what a sender wrote can't look like a member, because its quotation marks are escaped
+sed -n 's/.*"number":\([0-9]*\),"octets":[0-9]*,"of":\[\([^]]*\)\],"sha256".*/\1 \2/p' "$made/catalog" |
+    sed 's/{"number":\([0-9]*\),"part":[0-9]*},*/\1 /g' > "$made/links"
 
 # a name is what the sender wrote: it is cut, and other characters than these become underscores
 sed -n 's/^\([0-9]*\) part "[^"]*" "\([^"]*\)" .*/\1 \2/p' "$made/new" > "$made/names"
 while read -r number name; do
-    ask export "$db" "$user" "$number" raw > "$made/$number"
-    digest=$(sha256sum < "$made/$number")
-    echo "${digest%% *} $number $number-$(printf %s "$name" | tr -c 'A-Za-z0-9.-' _ | tail -c 100)" >> "$made/stored"
-done < "$made/names"
+    echo "$number $number-$(printf %s "$name" | tr -c 'A-Za-z0-9.-' _ | tail -c 100)"
+done < "$made/names" > "$made/stored"
 
 # for each part its number, the folder of its mail, and its name there
 awk '
-    FILENAME == ARGV[1] { mails[$1] = mails[$1] " " $2; next }
-    {
-        number[++parts] = $2 + 0; name[parts] = $3
-        many = split(mails[$1], mail, " ")
-        for (i = 1; i <= many; i++)
-            if (mail[i] + 0 < number[parts]) before[parts] = mail[i]
-            else if (!after[parts]) after[parts] = mail[i]
-        if (before[parts] && !after[parts]) first = 1
+    FILENAME == ARGV[1] { is_new[$1]; next }
+    FILENAME == ARGV[2] {
+        for (i = 2; i <= NF; i++)
+            if (!($i in is_new)) continue
+            else if ($i < $1) before[$1] = $i
+            else if (!after[$1]) after[$1] = $i
+        if (before[$1] && !after[$1]) first = 1
+        next
     }
-    END {
-        for (i = 1; i <= parts; i++)
-            print number[i], (first && before[i]) ? before[i] : after[i] ? after[i] : before[i] ? before[i] : "unlinked", name[i]
-    }' "$made/digests" "$made/stored" > "$made/places"
+    { print $1, (first && before[$1]) ? before[$1] : after[$1] ? after[$1] : before[$1] ? before[$1] : "unlinked", $2 }
+    ' "$made/mails" "$made/links" "$made/stored" > "$made/places"
 while read -r number mail name; do
     mkdir -p "$folder/$mail"
-    cp "$made/$number" "$folder/$mail/$name"
+    ask export "$db" "$user" "$number" raw > "$folder/$mail/$name"
 done < "$made/places"
 
 newest=$(sed -n '$s/ .*//p' "$made/new")

@@ -8,10 +8,12 @@ r"""Files mail in a depot from Python, and reads it back. This is one file for P
 ...     depot.list("ann")
 ...     depot.since("ann", 1)
 ...     depot.export("ann", 1)
+...     depot.catalog("ann")[0].fields
 [Filed(number=1, kind='message', folder=b'in/bills')]
 [Entry(number=1, kind='message', folder=b'in/bills', name=b'', media='message/rfc822', size=24)]
 []
 b'Subject: bills\n\nPay it.\n'
+{'Subject': b'bills'}
 
 A Depot starts `depot batch FILE` and keeps it until it is closed; each call is a line of that batch. So a call that returns
 was done, and whatever happens then, it stays done. docs/INTERFACE.md describes the lines, the refusals and the limits.
@@ -37,8 +39,10 @@ depot.NoSuchEntry: refused 40 NoSuchEntry: remove ann 9
 >>> folder.cleanup()
 """
 
+import base64
 import contextlib
 import fcntl
+import json
 import os
 import re
 import shutil
@@ -47,7 +51,7 @@ import subprocess
 import tempfile
 import time
 from types import TracebackType
-from typing import IO, Iterator, List, NamedTuple, Optional, Tuple, Type, Union, overload
+from typing import IO, Any, Dict, Iterator, List, NamedTuple, Optional, Tuple, Type, Union, overload
 
 # The name of a file.
 Path = Union[str, "os.PathLike[str]"]
@@ -77,6 +81,29 @@ class Entry(NamedTuple):
     name: bytes
     media: str
     size: int
+
+
+class Place(NamedTuple):
+    """An entry, and a part of a message, counted from 0 as `depot parts` does. In `stored` the entry is a part, in `of` the message."""
+
+    number: int
+    part: int
+
+
+class Described(NamedTuple):
+    """An entry with what `depot catalog` has of it. Nothing is decoded: names and fields can be MIME words."""
+
+    number: int
+    kind: str  # "message" or "part"
+    folder: bytes
+    name: bytes
+    media: str
+    size: int
+    sha256: str
+    parts: int  # of a message, how many it has; 0 for a part
+    fields: Dict[str, bytes]  # of a message: the first From, To, Cc, Subject, Date, Message-ID, In-Reply-To and References
+    stored: List[Place]  # of a message, the part entries with the content of one of its parts
+    of: List[Place]  # of a part, the messages with its content
 
 
 class DepotError(Exception):
@@ -258,6 +285,11 @@ class Depot:
         """What the user has above a number, by number: all that is new, if this is the last number that you know; all, if it is 0."""
         return self._listed("since", user, str(number))
 
+    def catalog(self, user: str, number: int = 0) -> List[Described]:
+        """What the user has above a number, by number, with its SHA-256, header fields, and which messages and parts belong together,
+        also those up to the number."""
+        return [_described(line) for line in self._ask("catalog", user, str(number))]
+
     def _listed(self, *words: str) -> List[Entry]:
         """The entries that a command lists."""
         return [Entry(int(number), kind.decode(), _unquoted(folder), _unquoted(name), media.decode(), int(size))
@@ -402,6 +434,27 @@ def _entries(form: "re.Pattern[bytes]", lines: List[bytes]) -> Iterator[Tuple[by
         if not found:
             raise Strange(f"the program prints what is no entry: {line!r}")
         yield found.groups()
+
+
+def _described(line: bytes) -> Described:
+    """The entry of a line of a catalog. A later program can write more members."""
+    try:
+        it = json.loads(line)
+        return Described(
+            it["number"], it["kind"], _octets(it["folder"]), _octets(it["name"]), _octets(it["media"]).decode(), it["octets"], it["sha256"],
+            it.get("parts", 0), {name: _octets(value) for name, value in it.get("fields", {}).items()},
+            _places(it.get("stored", [])), _places(it.get("of", [])))
+    except (ValueError, KeyError, TypeError, AttributeError) as fault:
+        raise Strange(f"the program prints what is no line of a catalog: {line!r}") from fault
+
+
+def _octets(value: Any) -> bytes:
+    """The bytes that a catalog writes as a string, or in base64 if they aren't UTF-8."""
+    return value.encode() if isinstance(value, str) else base64.b64decode(value["base64"])
+
+
+def _places(values: Any) -> List[Place]:
+    return [Place(it["number"], it["part"]) for it in values]
 
 
 def _remove(name: str) -> None:

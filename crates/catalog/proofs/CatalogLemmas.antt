@@ -1,10 +1,10 @@
 -- The entries of a list and what is kept of them, one after another.
-use Rattle.std.proofs.Common.{◌≡◌, ◌<◌, ◌+◌, ◌||◌, ℕ, zero, suc, List, [], ◌∷◌, ◌++◌, Bool, true, false, if◌then◌else◌, Option, Some, None, bytes_eq, filter_map, flat_map, length, map, nat_lt, option_map, take, refl, sym, ap, ◌∙◌, arith}
+use Rattle.std.proofs.Common.{◌≡◌, ◌<◌, ◌≤◌, ◌+◌, ◌||◌, ℕ, zero, suc, List, [], ◌∷◌, ◌++◌, Bool, true, false, if◌then◌else◌, Option, Some, None, bytes_eq, filter_map, flat_map, get_or, length, map, nat_lt, option_map, take, refl, sym, ap, ◌∙◌, arith}
 use Rattle.std.specs.List.{cons_option, slice_get}
 use Rattle.std.proofs.lemmas.Grind.{flat_map-append}
 use Rattle.std.proofs.lemmas.List.{append-nil, length-map, map-append, take_all, take_more}
 use Rattle.std.proofs.lemmas.List.Elements.{filter_map-append}
-use Rattle.std.proofs.lemmas.Option.{get_or_from_slice_get, none-some, same_Some, slice_get-map, slice_get_within}
+use Rattle.std.proofs.lemmas.Option.{get_or_from_slice_get, none-some, same_Some, slice_get-get_or, slice_get-map, slice_get_within}
 use Rattle.std.proofs.lemmas.Slice.Eq.{bytes_eq-Decides}
 use Rattle.sha2.specs.Sha256.{sha256}
 use Rattle.mime_decode.specs.Mail.{mail_of}
@@ -13,7 +13,6 @@ use Rattle.catalog.specs.Index.{is_stored}
 use Rattle.catalog.specs.Keeping.{HasPart, Known, Outlined, known_as, known_of, message_in, messages_in, outlined, part_beside, part_in, parts_above, parts_in}
 use Rattle.catalog.specs.Rows.{Row}
 use Rattle.catalog.specs.Stored.{Numbered, digests_of}
-use Rattle.catalog.proofs.SlotLemmas.{or_true}
 use Rattle.catalog.specs.declared.entry.PartEntry.{PartEntry}
 use Rattle.catalog.specs.declared.keeping.Kept.{Kept}
 
@@ -22,6 +21,9 @@ use Rattle.catalog.specs.declared.keeping.Kept.{Kept}
 pub one_taken : {A : Type 0} (all : List A) (at : ℕ) (x : A) → slice_get all at ≡ Some x → take (at + 1) all ≡ take at all ++ x ∷ []
 one_taken all at x found =
     take_more all at x (slice_get_within all at x found) ∙ ap (λ y. take at all ++ y ∷ []) (get_or_from_slice_get all at x x found)
+
+pub got_at : {A : Type 0} (all : List A) (at : ℕ) (x : A) → at < length all → x ≡ get_or all at x → slice_get all at ≡ Some x
+got_at all at x within is = slice_get-get_or all at x within ∙ ap (λ y. Some y) (sym is)
 
 pub more_picked : {A B C : Type 0} (f : A → B) (g : B → Option C) (all : List A) (at : ℕ) (x : A) → slice_get all at ≡ Some x
     → filter_map g (map f (take at all)) ++ filter_map g (f x ∷ []) ≡ filter_map g (map f (take (at + 1) all))
@@ -70,6 +72,10 @@ same_messages (filed ∷ all) =
 
 -- ---- a part that gets a line is among those above the number
 
+or_true : (a b : Bool) → b ≡ true → (a || b) ≡ true
+or_true true b h = refl
+or_true false b h = h
+
 kept_on : (above : Bool) (entry : PartEntry) (parts : List PartEntry) (digest : List ℕ) → is_stored parts digest ≡ true → is_stored (if above then entry ∷ parts else parts) digest ≡ true
 kept_on true entry parts digest stored = or_true (bytes_eq entry.digest digest) (is_stored parts digest) stored
 kept_on false entry parts digest stored = stored
@@ -92,24 +98,21 @@ part_is_stored after (first ∷ all) (suc at) filed found above part =
 
 -- ---- one more line
 
-piece_more : (after : ℕ) (all few : List Filed) (at : ℕ) (filed : Filed) (text : List ℕ) → slice_get few at ≡ Some filed → text ≡ flat_map (piece_of after all) (take at few)
+pub piece_more : (after : ℕ) (all few : List Filed) (at : ℕ) (filed : Filed) (text : List ℕ) → slice_get few at ≡ Some filed → text ≡ flat_map (piece_of after all) (take at few)
     → text ++ piece_of after all filed ≡ flat_map (piece_of after all) (take (at + 1) few)
 piece_more after all few at filed text found so_far =
     ap (λ t. t ++ piece_of after all filed) so_far
     ∙ ap (λ p. flat_map (piece_of after all) (take at few) ++ p) (sym (append-nil (piece_of after all filed)))
     ∙ sym (ap (flat_map (piece_of after all)) (one_taken few at filed found) ∙ flat_map-append (piece_of after all) (take at few) (filed ∷ []))
 
-pub line_more : (after : ℕ) (all : List Filed) (at : ℕ) (filed : Filed) (text : List ℕ) → slice_get all at ≡ Some filed → text ≡ flat_map (piece_of after all) (take at all)
-    → nat_lt after filed.number ≡ true → text ++ line_among all filed ≡ flat_map (piece_of after all) (take (at + 1) all)
-line_more after all at filed text found so_far above =
-    ap (λ b. text ++ (if b then line_among all filed else [])) (sym above) ∙ piece_more after all all at filed text found so_far
+-- the piece of an entry is its line if its number is above the other, and else nothing
+pub line_piece : (after : ℕ) (all : List Filed) (filed : Filed) (text old : List ℕ) → nat_lt after filed.number ≡ true → text ≡ old ++ line_among all filed → text ≡ old ++ piece_of after all filed
+line_piece after all filed text old above is = is ∙ ap (λ b. old ++ (if b then line_among all filed else [])) (sym above)
 
-pub none_more : (after : ℕ) (all : List Filed) (at : ℕ) (filed : Filed) (text : List ℕ) → slice_get all at ≡ Some filed → text ≡ flat_map (piece_of after all) (take at all)
-    → nat_lt after filed.number ≡ false → text ≡ flat_map (piece_of after all) (take (at + 1) all)
-none_more after all at filed text found so_far below =
-    sym (append-nil text) ∙ ap (λ b. text ++ (if b then line_among all filed else [])) (sym below) ∙ piece_more after all all at filed text found so_far
+pub no_piece : (after : ℕ) (all : List Filed) (filed : Filed) (text old : List ℕ) → nat_lt after filed.number ≡ false → text ≡ old → text ≡ old ++ piece_of after all filed
+no_piece after all filed text old below is = is ∙ sym (append-nil old) ∙ ap (λ b. old ++ (if b then line_among all filed else [])) (sym below)
 
-pub whole_text : (after : ℕ) (kept : List Kept) (all : List Filed) (text : List ℕ) → map known_as kept ≡ map known_of all → text ≡ flat_map (piece_of after all) (take (length kept) all) → text ≡ catalog after all
-whole_text after kept all text same is =
+pub whole_text : (after : ℕ) (kept : List Kept) (at : ℕ) (all : List Filed) (text : List ℕ) → length kept ≤ at → map known_as kept ≡ map known_of all → text ≡ flat_map (piece_of after all) (take at all) → text ≡ catalog after all
+whole_text after kept at all text whole same is =
     let long : length all ≡ length kept = sym (length-map all known_of) ∙ sym (ap length same) ∙ length-map kept known_as in
-    is ∙ ap (flat_map (piece_of after all)) (take_all (length kept) all (omega (arith, long)))
+    is ∙ ap (flat_map (piece_of after all)) (take_all at all (omega (arith, long, whole)))

@@ -3,8 +3,8 @@
 // Two indices find which entries belong together. The one of all parts finds the parts of a message that gets a line.
 // The other one has the parts that get a line, and all messages. So no pair of a message and a part is looked at that
 // isn't printed.
-ghost use Rattle.std.specs.Prelude.{◌≡◌, [], ◌∷◌, ◌++◌, List, IfOk, OnOk, filter_map, map};
-ghost use Rattle.catalog.specs.Catalog.{Filed, catalog, line_among, messages_of, parts_of};
+ghost use Rattle.std.specs.Prelude.{◌≡◌, [], ◌∷◌, ◌++◌, List, IfOk, OnOk, filter_map, map, nat_lt, true};
+ghost use Rattle.catalog.specs.Catalog.{Filed, catalog, line_among, messages_of, parts_of, piece_of};
 ghost use Rattle.catalog.specs.Index.{IsIndex};
 ghost use Rattle.catalog.specs.Keeping.{HasPart, known_as, known_of, message_in, messages_in, part_in, parts_above, parts_in};
 ghost use Rattle.catalog.specs.Stored.{Numbered};
@@ -32,11 +32,31 @@ pub fn catalog_text(alloc: Global, kept: &[Kept<'_>], after: u32) -> Result<Vec<
     let messages = messages_for(alloc, kept, &entries, after)?;
     let mut text = Vec::new(alloc);
     for entry in kept {
-        if entry.entry.number > after {
-            put_line(alloc, &mut text, entry, &parts, &messages)?;
-        }
+        put_piece(alloc, &mut text, entry, after, &parts, &messages)?;
     }
     Ok(text)
+}
+
+// Appends the line of an entry, with its line break, if its number is above `after`.
+fn put_piece(
+    alloc: Global,
+    text: &mut Vec<u8>,
+    kept: &Kept<'_>,
+    after: u32,
+    parts: &PartIndex,
+    messages: &PartIndex,
+) -> Result<(), AllocError>
+    ensures { (all : List Filed) (filed : Filed) (some : List PartEntry)
+        → known_as kept.now ≡ known_of filed
+        → IsIndex parts.now (parts_of all) []
+        → IsIndex messages.now some (messages_of all)
+        → (nat_lt after filed.number ≡ true → HasPart some filed)
+        → OnOk result (text.new.items ≡ text.old.items ++ piece_of after all filed) }
+{
+    if kept.entry.number <= after {
+        return Ok(());
+    }
+    put_line(alloc, text, kept, parts, messages)
 }
 
 // Appends the line of an entry, with its line break.

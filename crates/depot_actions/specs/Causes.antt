@@ -98,6 +98,12 @@ IsSpoilt (Some program) = (refusal : Refusal) × (refusal ≢ Memory) × IsProgr
 abbrev pub IsNoMessage : Entry → Type 0
 IsNoMessage entry = IsTrue (is_message entry.kind) × (IsReadable entry.octets → ⊥)
 
+-- the octets of an entry of the user were altered, or aren't the message that it is
+abbrev pub IsIllegible : List ℕ → Entries → Trees → Type 0
+IsIllegible user before db =
+    ((number : ℕ) × IsAltered db user number)
+    ⊎ ((entry : Entry) × IsEntryAt before user entry.number entry × IsNoMessage entry)
+
 -- What may keep a store that works from a command: what is to be put in has no room, where its
 -- numbers suffice; a stored program is spoilt; the octets that are to be exported, or those of an entry of a catalog,
 -- were altered; or an entry of a catalog that is a message can't be read as one. Where a command only lists, reads a
@@ -111,8 +117,7 @@ IsHindered (Deliver user message) before db =
     ⊎ ((actions : List Action) × AreActions (before.programs user) (mail_of message) actions
     × LackRoom user (drafts_of (mail_of message) actions) before db)
 IsHindered (Export user number encoding) before db = IsAltered db user number
-IsHindered (Catalog user number) before db =
-    (entry : Entry) × IsEntryAt before user entry.number entry × (IsAltered db user entry.number ⊎ IsNoMessage entry)
+IsHindered (Catalog user number) before db = IsIllegible user before db
 IsHindered Migrate before db =
     ((user : List ℕ) × IsSpoilt (before.programs user))
     ⊎ ((stored : List UserProgram) × (renewed : List UserProgram) × AreProgramsOf before stored

@@ -18,4 +18,5 @@ pub mod Filing
 pub mod Delivering
 pub mod KeptPrograms
 pub mod Sources
+pub mod Cataloguing
 pub mod Private

@@ -25,6 +25,7 @@ ghost use Rattle.devices.specs.Device.{HasBegun, HasBroken, HasTaken};
 ghost use Rattle.encodings.specs.Texts.{text_of};
 ghost use Rattle.part_store.specs.Calls.{Always, CommitsNothing, IfRefused};
 
+use crate::cataloguing::catalog_of;
 use crate::checked_program::CheckedPrograms;
 use crate::checking::check_code;
 use crate::deliveries::{Delivery, RefusedDelivery, deliver_alone, deliver_together};
@@ -232,7 +233,10 @@ impl<S: Alter> Depot<S> {
         ensures { Applies S.Store self.old self.new result (Catalog user.now number)
             (λ text. Text text.items) }
     {
-        Err(Refusal::Memory)
+        if !is_user_name(user) {
+            return Err(Refusal::UserName);
+        }
+        catalog_of(&mut self.store, alloc, user, number)
     }
 
     /// Returns the bytes of the user's filter program, or `None` if the user has none.

@@ -29,8 +29,9 @@
 //!
 //! A command is refused if the name is no user's name, the entry doesn't exist, or the numbers don't suffice. It is
 //! refused `Database` only if the store can't work, what is to be put in has no room though its numbers suffice, a
-//! stored filter that it needs no longer reads and verifies, or the bytes that are to be exported were altered; another
-//! command that only reads or removes only for the first of these. For `migrate`, `inspect` and `scrub` that holds if
+//! stored filter that it needs no longer reads and verifies, or the bytes that are to be exported were altered; a
+//! catalog, if the bytes of one of the user's entries were altered or can't be read as the message that the entry is;
+//! another command that only reads or removes only for the first of these. For `migrate`, `inspect` and `scrub` that holds if
 //! users' names are UTF-8. `inspect` and `scrub` are also refused if there are more bytes than 64 bits can count.
 //!
 //! ### What a delivery files
@@ -58,6 +59,12 @@
 //! written. If the stored bytes don't have it, or nothing is stored under the digest, the export is refused `Database`,
 //! and nothing is written. If each content has its digest, no export is refused for this (see "Bytes that are read have
 //! their digest").
+//!
+//! ### What a catalog says
+//!
+//! A catalog of a user is exactly the text of its definition: a line for each entry above the number, in the order of
+//! the numbers, made of the entries and their bytes alone. Which messages and parts belong together is looked for among
+//! all entries of the user. It changes nothing. Each content is read once.
 //!
 //! ### Scrubbing a depot
 //!
@@ -92,12 +99,13 @@
 //! that. If the disk fails, the depot can be shut. It then accepts and commits nothing more, and what it held is what
 //! the accepted commands before make.
 //!
-//! By `Depot`: `set_script`, `set_code`, `deliver`, `deliver_all`, `list`, `list_since`, `program_of`, `export`,
-//! `remove`, `migrate`, `inspect`, `scrub`; laws `commands_are_a_fold`, `open_stores_leave_what_is_committed`,
+//! By `Depot`: `set_script`, `set_code`, `deliver`, `deliver_all`, `list`, `list_since`, `catalog`, `program_of`,
+//! `export`, `remove`, `migrate`, `inspect`, `scrub`; laws `commands_are_a_fold`, `open_stores_leave_what_is_committed`,
 //! `sessions_are_steps`, `runs_are_a_fold`, `accepted_commands_have_no_cause`, `migrations_change_no_actions`,
 //! `migrated_programs_run_as_before`, `deliveries_stay_within_their_limit`, `media_types_have_no_line_break`.
 #![tactic(auto)]
 
+mod cataloguing;
 mod checked_program;
 mod checking;
 mod contents;

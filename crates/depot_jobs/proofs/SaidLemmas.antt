@@ -1,19 +1,20 @@
 -- The number and the encoding of a command are those that its words have.
 use Rattle.std.proofs.Common.{◌≡◌, ◌<◌, ◌^◌, ◌∙◌, refl, sym, ap, subst, arith, codes, cond, Bool, true, false, ℕ, List, [], ◌∷◌, Option, None, Some, inl, inr, unwrap_or}
-use Rattle.std.specs.Prelude.{IfSome}
+use Rattle.std.specs.Prelude.{IfSome, MatchOption}
 use Rattle.std.specs.Str.{bytes_eq}
+use Rattle.std.specs.Str.Parse.{digits_value, without_leading_plus}
 use Rattle.std.proofs.lemmas.Option.{none-some}
 use Rattle.std.proofs.lemmas.Slice.Eq.{bytes_eq-Decides}
 use Rattle.octets.specs.Limits.{max_entry_number, max_message, max_parts}
 use Rattle.clap.specs.Words.{Row, Text, first_of, subcommand_of}
 use Rattle.encodings.specs.Names.{name_of}
 use Rattle.encodings.specs.declared.encoding.Encoding.{Encoding}
-use Rattle.depot_words.specs.Commands.{Arguments, commands, encoding_name, encoding_names, entry_number, number_from}
-use Rattle.depot_words.specs.Ranges.{AreComplete, HasArgument, HasArguments, IsOneOf}
-use Rattle.depot_jobs.specs.Words.{AreSaid, IsLine, IsNumber, WritesFrom, WritesNumber, argument, encoding_named}
+use Rattle.depot_words.specs.Commands.{Arguments, commands, encoding_name, encoding_names, entry_number, number_from, optional}
+use Rattle.depot_words.specs.Ranges.{AreComplete, HasArgument, HasArguments, IsNumberFrom, IsOneOf}
+use Rattle.depot_jobs.specs.Words.{AreSaid, IsLine, IsNumber, IsNumberText, WritesFrom, WritesFromOr0, WritesNumber, argument, encoding_named}
 use Rattle.depot_jobs.specs.declared.line.CommandLine.{CommandLine}
 use Rattle.depot_jobs.specs.declared.line.CommandLine.TheVariants.{Alone, OnDepot}
-use Rattle.depot_jobs.specs.declared.request.Access.TheVariants.{Since, Remove}
+use Rattle.depot_jobs.specs.declared.request.Access.TheVariants.{Since, Catalog, Remove}
 use Rattle.depot_jobs.specs.declared.request.OnDepot.TheVariants.{OnUser, Export}
 use Rattle.depot_jobs.specs.declared.work.Tool.TheVariants.{Limit, Encode, Decode}
 use Rattle.depot_jobs.specs.declared.work.WithoutDepot.TheVariants.{OnFile}
@@ -48,6 +49,19 @@ from_said rows name least most number few has is =
     let text : argument name rows ≡ has.0 = ap (λ o. unwrap_or o []) has.1 in
     let is_number : IsNumber has.0 number = subst (λ t. IsNumber t number) text is in
     (has.0, has.1, has.2, is_number.value (has.2.0, omega (arith, has.2.2, few)))
+
+-- no number is written in an empty text
+none_written : IsNumberText [] → ⊥
+none_written is = omega (arith, is.0.0)
+
+or_0_said : (rows : List Row) (name : Text) (least most number : ℕ) → most < 2 ^ 32 → HasArgument rows name (optional (number_from least most)) → IsNumber (argument name rows) number
+    → WritesFromOr0 name least most number (Some (codes "", rows))
+or_0_said rows name least most number few has is = go (first_of name rows) has is
+  where
+    go : (o : Option Text) → IfSome o (IsNumberFrom least most) → IsNumber (unwrap_or o []) number
+        → MatchOption o (number ≡ 0) (λ text. IsNumberFrom least most text × (number ≡ digits_value 10 (without_leading_plus text)))
+    go None has is = is.none none_written
+    go (Some text) has is = (has, is.value (has.0, omega (arith, has.2, few)))
 
 -- the arguments of the command of a name, in a list of commands
 abbrev arguments_in : Text → List (Text × Arguments) → Option Arguments
@@ -91,6 +105,11 @@ said words (OnDepot depot (OnUser (Since number) user)) is =
     let request = is.says.1 in
     let has = has_of (codes "since") rows request.0 is.complete refl in
     back _ (codes "since", rows) _ request.0 (from_said rows (codes "NUMBER") 0 max_entry_number number (omega arith) has.1.1.0 request.2)
+said words (OnDepot depot (OnUser (Catalog number) user)) is =
+    let rows = is.says.0 in
+    let request = is.says.1 in
+    let has = has_of (codes "catalog") rows request.0 is.complete refl in
+    back _ (codes "catalog", rows) _ request.0 (or_0_said rows (codes "NUMBER") 0 max_entry_number number (omega arith) has.1.1.0 request.2)
 said words (OnDepot depot (Export user number encoding)) is =
     let rows = is.says.0 in
     let request = is.says.1 in

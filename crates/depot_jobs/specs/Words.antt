@@ -1,5 +1,5 @@
 -- What a command line says.
-use Rattle.std.specs.Prelude.{◌≡◌, ◌≢◌, ℕ, ◌<◌, ◌^◌, List, [], Option, Some, IfSome, codes, unwrap_or, ⊤}
+use Rattle.std.specs.Prelude.{◌≡◌, ◌≢◌, ℕ, ◌<◌, ◌^◌, List, [], Option, Some, IfSome, MatchOption, codes, unwrap_or, ⊤}
 use Rattle.std.specs.Str.Parse.{IsNumeral, digits_value, without_leading_plus}
 use Rattle.octets.specs.Limits.{max_entry_number, max_message, max_parts}
 use Rattle.clap.specs.Words.{App, Row, Text, fault_of, first_of, subcommand_of}
@@ -13,7 +13,7 @@ use Rattle.depot_jobs.specs.declared.line.CommandLine.TheVariants.{Alone, OnDepo
 use Rattle.depot_jobs.specs.Requests.{Request, Work}
 use Rattle.depot_jobs.specs.declared.host.Input.{Input}
 use Rattle.depot_jobs.specs.declared.host.Input.TheVariants.{Standard, File}
-use Rattle.depot_jobs.specs.declared.request.Access.TheVariants.{List as ListAll, Since, Remove}
+use Rattle.depot_jobs.specs.declared.request.Access.TheVariants.{List as ListAll, Since, Catalog, Remove}
 use Rattle.depot_jobs.specs.declared.request.Deposit.{Deposit}
 use Rattle.depot_jobs.specs.declared.request.Deposit.TheVariants.{Script, Code, Message}
 use Rattle.depot_jobs.specs.declared.request.OnDepot.TheVariants.{FromFile, OnUser, Export, Migrate}
@@ -37,7 +37,7 @@ IsCommand name matches rows = matches ≡ Some (name, rows)
 abbrev pub IsNumberText : Text → Type 0
 IsNumberText text = IsNumeral 10 (without_leading_plus text) × (digits_value 10 (without_leading_plus text) < 2 ^ 32)
 
--- the number that a text is; 0 stands for any text that is none, which no command line of the program has
+-- the number that a text is; 0 stands for any text that is none, which no command line of the program has, and for one that is left out
 pub record IsNumber (text : Text) (number : ℕ) : Type 0 where
   pub value : IsNumberText text → number ≡ digits_value 10 (without_leading_plus text)
   pub none : (IsNumberText text → ⊥) → number ≡ 0
@@ -54,7 +54,8 @@ IsNoWork name =
 abbrev pub IsNoRequest : Text → Type 0
 IsNoRequest name =
     (name ≢ codes "script") × (name ≢ codes "code") × (name ≢ codes "deliver") × (name ≢ codes "list")
-    × (name ≢ codes "since") × (name ≢ codes "export") × (name ≢ codes "remove") × (name ≢ codes "migrate")
+    × (name ≢ codes "since") × (name ≢ codes "catalog") × (name ≢ codes "export") × (name ≢ codes "remove")
+    × (name ≢ codes "migrate")
 
 -- nor of any other command on a depot
 abbrev pub IsNoDepotCommand : Text → Type 0
@@ -126,6 +127,9 @@ SaysRequest (OnUser ListAll user) matches rows = IsCommand (codes "list") matche
 SaysRequest (OnUser (Since number) user) matches rows =
     IsCommand (codes "since") matches rows × (user.now ≡ argument (codes "USER") rows)
     × IsNumber (argument (codes "NUMBER") rows) number
+SaysRequest (OnUser (Catalog number) user) matches rows =
+    IsCommand (codes "catalog") matches rows × (user.now ≡ argument (codes "USER") rows)
+    × IsNumber (argument (codes "NUMBER") rows) number
 SaysRequest (OnUser (Remove number) user) matches rows =
     IsCommand (codes "remove") matches rows × (user.now ≡ argument (codes "USER") rows)
     × IsNumber (argument (codes "NUMBER") rows) number
@@ -175,6 +179,12 @@ WritesFrom name least most number matches =
     IfSome matches (λ m. (text : Text) × (first_of name m.1 ≡ Some text) × IsNumberFrom least most text
     × (number ≡ digits_value 10 (without_leading_plus text)))
 
+-- the same, or they have no text for it, and the number is 0
+abbrev pub WritesFromOr0 : Text → ℕ → ℕ → ℕ → Option (Text × List Row) → Type 0
+WritesFromOr0 name least most number matches =
+    IfSome matches (λ m. MatchOption (first_of name m.1) (number ≡ 0) (λ text. IsNumberFrom least most text
+    × (number ≡ digits_value 10 (without_leading_plus text))))
+
 -- the numbers and the encoding of a command are those that the matches have
 abbrev pub AreSaid : CommandLine → Option (Text × List Row) → Type 0
 AreSaid (Alone (OnFile (Limit octets parts) program)) matches =
@@ -182,6 +192,8 @@ AreSaid (Alone (OnFile (Limit octets parts) program)) matches =
 AreSaid (Alone (OnFile (Encode encoding) octets)) matches = NamesEncoding encoding matches
 AreSaid (Alone (OnFile (Decode encoding) text)) matches = NamesEncoding encoding matches
 AreSaid (OnDepot depot (OnUser (Since number) user)) matches = WritesFrom (codes "NUMBER") 0 max_entry_number number matches
+AreSaid (OnDepot depot (OnUser (Catalog number) user)) matches =
+    WritesFromOr0 (codes "NUMBER") 0 max_entry_number number matches
 AreSaid (OnDepot depot (OnUser (Remove number) user)) matches = WritesNumber number matches
 AreSaid (OnDepot depot (Export user number encoding)) matches =
     WritesNumber number matches × NamesEncoding encoding matches

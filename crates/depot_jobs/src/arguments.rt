@@ -6,7 +6,8 @@ ghost use Rattle.depot_jobs.specs.Words.{IsNumber, argument as text_of, encoding
 use clap::ArgMatches;
 use encodings::Encoding;
 
-/// The text of an argument; empty if the command doesn't have it. Each argument of a command is required.
+/// The text of an argument; empty if the command doesn't have it. Each argument of a command is required, except NUMBER
+/// of `catalog`.
 pub fn argument<'a>(matches: &ArgMatches<'a>, name: &str) -> &'a str
     ensures { result.now ≡ text_of name.now (rows_of (found_of matches.now)) }
 {
@@ -14,7 +15,7 @@ pub fn argument<'a>(matches: &ArgMatches<'a>, name: &str) -> &'a str
 }
 
 /// The number that a text spells, and 0 for the text of no number. Only numbers of entries, and numbers of bytes and
-/// parts, are arguments.
+/// parts, are arguments; one that is left out is an empty text.
 pub fn number(text: &str) -> u32
     ensures { IsNumber text.now result }
 {

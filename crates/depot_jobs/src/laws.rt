@@ -9,7 +9,7 @@ ghost use Rattle.depot_jobs.specs.declared.line.CommandLine.{CommandLine};
 
 /// The number of a command is written in its words, and is one that an entry can have, or as many bytes or parts as a
 /// message can have; and its encoding is the one whose name is written there. So neither 0 nor `raw` replaces anything
-/// else.
+/// else, except that the number of a catalog is 0 if it is left out.
 pub fn numbers_and_encodings_are_said()
     ensures { (words : List Text) (line : CommandLine) → (is : IsLine words line)
         → AreSaid line (subcommand_of is.app words) }

@@ -19,7 +19,7 @@
 //! ## Words
 //!
 //! The words are read by the rules of the command line; others are refused as `clap` defines. NUMBER, OCTETS, PARTS
-//! and ENCODING are those that the words write.
+//! and ENCODING are those that the words write. Where NUMBER can be left out it is 0 then.
 //!
 //! ### What is printed for wrong words
 //!

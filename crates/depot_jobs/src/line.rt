@@ -17,7 +17,7 @@ use depot_words::depot_command;
 use std::alloc::Global;
 
 /// A command with its arguments, as the words of a command line say it. [`line_of`] makes it; every argument is there,
-/// and in its range.
+/// and in its range. A number that can be left out is 0 then.
 #[derive(Clone, Copy)]
 pub enum CommandLine<'a> {
     /// A command that needs no depot.
@@ -59,7 +59,7 @@ const ENCODINGS: &[&str] = &[
 ];
 
 /// Reads the words of a command line; the first is the program's name. Each argument of the returned command is there,
-/// and in its range.
+/// unless it can be left out, and in its range.
 ///
 /// # Errors
 ///

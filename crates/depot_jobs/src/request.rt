@@ -15,7 +15,7 @@ use encodings::Encoding;
 pub enum OnDepot<'a, F> {
     /// Store a filter, or file a message, for the user with this name.
     FromFile(Deposit, &'a str, F),
-    /// List or remove entries of the user with this name.
+    /// List, describe or remove entries of the user with this name.
     OnUser(Access, &'a str),
     /// Write the bytes of the user's entry in an encoding. No other command writes its reply itself.
     Export {
@@ -45,6 +45,8 @@ pub enum Access {
     List,
     /// List those with numbers above `number`.
     Since { number: u32 },
+    /// Describe those with numbers above `number` for other programs, in JSON.
+    Catalog { number: u32 },
     /// Remove the one with this number.
     Remove { number: u32 },
 }
@@ -70,6 +72,7 @@ pub(crate) fn request_in<'a>(name: &str, found: &ArgMatches<'a>) -> Option<Reque
         "deliver" => Some(Request::FromFile(Deposit::Message, user, argument(found, "MESSAGE"))),
         "list" => Some(Request::OnUser(Access::List, user)),
         "since" => Some(Request::OnUser(Access::Since { number: entry }, user)),
+        "catalog" => Some(Request::OnUser(Access::Catalog { number: entry }, user)),
         "export" => Some(Request::Export {
             user,
             number: entry,

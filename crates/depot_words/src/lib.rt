@@ -12,7 +12,7 @@
 //!
 //! The command line follows the definition of the commands. If `clap` takes words as those of a command, each argument
 //! of the command is there and in its range: NUMBER is the number of an entry, OCTETS and PARTS are as many as a
-//! message can have, and ENCODING is the name of an encoding.
+//! message can have, and ENCODING is the name of an encoding. Only NUMBER of `catalog` can be left out.
 //!
 //! By `depot_command`; law `arguments_are_in_range`.
 #![tactic(auto)]

@@ -203,7 +203,8 @@ const MEANINGS: &[Meaning] = &[
         "Database",
         "The file DB can't be opened or made, is no depot, or stayed open in another process for ten seconds;\n\
          its disk is full or failed; a stored filter is no longer an accepted program; or a content that is\n\
-         exported or scrubbed was altered: its bytes don't have the SHA-256 under which they are stored.",
+         exported, described or scrubbed was altered: its bytes don't have the SHA-256 under which they are\n\
+         stored.",
         "`depot inspect DB` reports which; it makes no depot. If it prints `depot`, another process kept the\n\
          file open, so try again, or the disk is full. If it prints `program refused` for a user, store this\n\
          user's filter again. If it prints that there is no such file, look at the rights of the folder.\n\

@@ -1,0 +1,24 @@
+use Rattle.depot_actions.proofs.StoreFaults.{later_fault, passed_on, weaker_fault}
+use Rattle.depot_actions.specs.Cataloguing.{AreListed}
+use Rattle.depot_actions.specs.Causes.{IsIllegible}
+use Rattle.part_store.specs.Standing.{listed}
+use Rattle.sqlite.specs.State.{HasCleanDisk}
+use Rattle.std.proofs.Common.{◌∙◌, ap, arith, map, subst, sym}
+use Rattle.std.proofs.lemmas.Result.{IfOk-weaker}
+use Rattle.sqlite.specs.Held.{state}
+use Rattle.depot_actions.proofs.Cataloguing.{settled_after}
+use Rattle.depot_actions.proofs.Commands.{stands_still}
+use Rattle.depot_actions.proofs.cataloguing.catalog_of.Goals as goal
+
+pub returns-in_err-kept-clause-cause : goal.returns-in_err-kept-clause-cause
+returns-in_err-kept-clause-cause g c clean =
+    let old = state g.S.Store c.args.store.now in
+    let mid = state g.S.Store c.rows_of.new.store in
+    let new = state g.S.Store c.keep_all.new.store in
+    let user = c.args.user.now in
+    let early : HasCleanDisk mid = omega (arith, clean, c.keep_all.ensures.survives.clean) in
+    passed_on c.from_residual-in_err-kept.result _ _ c.from_residual-in_err-kept.ensures.1
+    (weaker_fault (λ before db. AreListed user c.deref.result.now before → IsIllegible user before db) (IsIllegible user) old new _
+    (λ before stands illegible. illegible (ap (map listed) c.deref.ensures.value ∙ c.in_ok-rows.ensures.answer early before stands))
+    (later_fault (λ before db. AreListed user c.deref.result.now before → IsIllegible user before db) old mid new _ (c.rows_of.ensures.reads.unchanged early) c.rows_of.ensures.reads.survives c.keep_all.ensures.survives clean
+    (c.in_err-kept.ensures.cause clean)))
