@@ -6,7 +6,7 @@ use Rattle.sqlite.specs.State.{HasCleanDisk}
 use Rattle.std.proofs.Common.{◌∙◌, ap, arith, map, subst, sym}
 use Rattle.std.proofs.lemmas.Result.{IfOk-weaker}
 use Rattle.sqlite.specs.Held.{state}
-use Rattle.depot_actions.proofs.Cataloguing.{settled_after}
+use Rattle.depot_actions.proofs.KeepingRows.{settled_after}
 use Rattle.depot_actions.proofs.Commands.{stands_still}
 use Rattle.depot_actions.proofs.cataloguing.catalog_of.Goals as goal
 

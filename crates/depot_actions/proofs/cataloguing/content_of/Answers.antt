@@ -1,5 +1,5 @@
 use Rattle.sqlite.specs.Held.{state}
-use Rattle.depot_actions.proofs.Cataloguing.{content_fault}
+use Rattle.depot_actions.proofs.KeepingRows.{content_fault}
 use Rattle.depot_actions.proofs.cataloguing.content_of.Goals as goal
 
 pub returns-clause-cause : goal.returns-clause-cause

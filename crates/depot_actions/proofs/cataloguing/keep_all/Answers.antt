@@ -4,7 +4,7 @@ use Rattle.depot_actions.specs.Causes.{IsIllegible}
 use Rattle.sqlite.specs.State.{HasCleanDisk}
 use Rattle.std.proofs.Common.{arith}
 use Rattle.sqlite.specs.Held.{state}
-use Rattle.depot_actions.proofs.Cataloguing.{all_kept, one_kept, unkept_row}
+use Rattle.depot_actions.proofs.KeepingRows.{all_kept, one_kept, unkept_row}
 use Rattle.depot_actions.proofs.cataloguing.keep_all.Goals as goal
 
 pub loop-row-preserved : goal.loop-row-preserved
