@@ -79,6 +79,7 @@ Tells (SetCode user program) reply told = told ≡ replies.Stored
 Tells (Deliver user message) reply told = (rows : Vec EntryRow Global) × (told ≡ replies.Filed rows) × (reply ≡ Listed (map listed rows.items))
 Tells (ListAll user) reply told = (rows : Vec EntryRow Global) × (told ≡ replies.Listed rows) × (reply ≡ Listed (map listed rows.items))
 Tells (ListSince user number) reply told = (rows : Vec EntryRow Global) × (told ≡ replies.Listed rows) × (reply ≡ Listed (map listed rows.items))
+Tells (Catalog user number) reply told = (text : Vec ℕ Global) × (told ≡ replies.Catalog text) × (reply ≡ Written text.items)
 Tells (Remove user number) reply told = told ≡ replies.Removed number
 Tells Migrate reply told = (count : ℕ) × (told ≡ replies.Migrated count) × (reply ≡ Migrated count)
 Tells command reply told = ⊥
