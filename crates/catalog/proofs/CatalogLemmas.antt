@@ -34,7 +34,7 @@ more_picked f g all at x found =
     ∙ filter_map-append g (map f (take at all)) (f x ∷ [])
     )
 
-of_option : {A B : Type 0} (f : A → B) (o : Option A) (b : B) → Some b ≡ option_map f o → (a : A) × (o ≡ Some a) × (b ≡ f a)
+pub of_option : {A B : Type 0} (f : A → B) (o : Option A) (b : B) → Some b ≡ option_map f o → (a : A) × (o ≡ Some a) × (b ≡ f a)
 of_option f None b is = absurd (none-some b (sym is))
 of_option f (Some a) b is = (a, refl, same_Some b (f a) is)
 

@@ -1,5 +1,9 @@
 // Lines next to texts that Python's `json` and `base64` wrote.
-use crate::{Entry, PartEntry, PartIndex, Place, message_line, part_line};
+use crate::outline::outline_of;
+use crate::stored::part_digests;
+use crate::{
+    Entry, Listed, PartEntry, PartIndex, Place, catalog_text, keep, message_line, part_line,
+};
 use mime_decode::Message;
 use sha2::{Digest, Sha256};
 use std::alloc::{AllocError, Global};
@@ -95,8 +99,10 @@ fn long_names(rt: HostRuntime) -> Result<(), Fail> {
 
 // The entries with contents of the message's parts, if there is memory.
 fn stored_in(alloc: Global, message: &Message<'_>, entries: &[PartEntry]) -> Option<Vec<Place>> {
-    let mut index = PartIndex::new(alloc, entries).ok()?;
-    index.add(alloc, 1, message).ok()
+    let index = PartIndex::new(alloc, entries).ok()?;
+    index
+        .stored_in(alloc, &part_digests(alloc, message).ok()?)
+        .ok()
 }
 
 // The line of a message in a folder, if there is memory. The entries are those of parts.
@@ -111,7 +117,8 @@ fn line_of(alloc: Global, octets: &[u8], folder: &[u8], entries: &[PartEntry]) -
         octets: message.size() as u64,
         digest: [0xab; 32],
     };
-    message_line(alloc, &entry, &message, &stored).ok()
+    let outline = outline_of(alloc, &message).ok()?;
+    message_line(alloc, &entry, &outline, &stored).ok()
 }
 
 // A message without fields.
@@ -146,7 +153,9 @@ fn are_places(places: &[Place], part: usize, numbers: &[u32]) -> bool {
 // Adds a message to an index. Gives its entries, if there is memory.
 fn added(alloc: Global, index: &mut PartIndex, number: u32, octets: &[u8]) -> Option<Vec<Place>> {
     let message = Message::read(alloc, octets).ok()?;
-    index.add(alloc, number, &message).ok()
+    let digests = part_digests(alloc, &message).ok()?;
+    index.add(alloc, number, &digests).ok()?;
+    index.stored_in(alloc, &digests).ok()
 }
 
 // Whether a message is added that has entries with these numbers, each at this part.
@@ -238,4 +247,60 @@ fn many_messages(rt: HostRuntime) -> Result<(), Fail> {
     let mut index = PartIndex::new(rt.alloc(), &entries)?;
     assert!(rt; have_three(rt.alloc(), &mut index)?);
     Ok(())
+}
+
+// The lines of the entries below, as Python's `json` wrote them.
+const FIRST_LINES: &[u8] =
+    b"{\"folder\":\"Documents\",\"kind\":\"part\",\"media\":\"text/plain\",\"name\":{\"base64\":\"/w==\"},\"number\":1,\"octets\":3,\"of\":[{\"number\":2,\"part\":1}],\"sha256\":\"7692c3ad3540bb803c020b3aee66cd8887123234ea0c6e7143c0add73ff431ed\"}\n{\"fields\":{\"From\":{\"base64\":\"6UB4\"},\"Message-ID\":\"<1>\",\"References\":\"\",\"Subject\":\"=?utf-8?q?a?=\\t b\"},\"folder\":\"INBOX\",\"kind\":\"message\",\"media\":\"message/rfc822\",\"name\":\"\",\"number\":2,\"octets\":193,\"parts\":3,\"sha256\":\"8d79d3e1365a9067846f8a2d4bacd733060ec4e75fc096d72240052d3af2e14a\",\"stored\":[{\"number\":1,\"part\":1}]}\n";
+
+const LAST_LINES: &[u8] =
+    b"{\"fields\":{},\"folder\":\"INBOX\",\"kind\":\"message\",\"media\":\"message/rfc822\",\"name\":\"\",\"number\":4,\"octets\":2,\"parts\":1,\"sha256\":\"bbe56d7c2d0f1f7271eb6f829800598a0a1c5a54f09cb49c47607e0698af7d6f\",\"stored\":[{\"number\":7,\"part\":0}]}\n{\"folder\":\"Documents\",\"kind\":\"part\",\"media\":\"text/plain\",\"name\":{\"base64\":\"/w==\"},\"number\":7,\"octets\":1,\"of\":[{\"number\":4,\"part\":0}],\"sha256\":\"2d711642b726b04401627ca9fbac32f5c8530fb1903cc4db02258717921a4881\"}\n";
+
+// The number, whether it is a message, and the content of each entry: a part of the message after it, and a part of the
+// message before it.
+const ENTRIES: [(u32, bool, &[u8]); 4] = [
+    (1, false, b"one"),
+    (2, true, MESSAGE),
+    (4, true, b"\nx"),
+    (7, false, b"x"),
+];
+
+// The catalog of these entries after a number, if there is memory.
+fn catalog_after(alloc: Global, after: u32) -> Option<Vec<u8>> {
+    let mut kept = Vec::new(alloc);
+    for (number, is_message, octets) in ENTRIES {
+        let listed = if is_message {
+            Listed {
+                number,
+                folder: b"INBOX",
+                name: b"",
+                media: b"message/rfc822",
+                is_message,
+            }
+        } else {
+            Listed {
+                number,
+                folder: b"Documents",
+                name: b"\xff",
+                media: b"text/plain",
+                is_message,
+            }
+        };
+        kept.push(keep(alloc, listed, octets).ok()?).ok()?;
+    }
+    catalog_text(alloc, &kept, after).ok()
+}
+
+// Whether a catalog is these lines.
+fn is_catalog(catalog: Option<Vec<u8>>, first: &[u8], last: &[u8]) -> bool {
+    catalog.is_some_and(|text| text.len() == first.len() + last.len()
+        && text.as_slice().starts_with(first)
+        && text.as_slice().ends_with(last))
+}
+
+#[test]
+fn catalogs(rt: HostRuntime) {
+    assert!(rt; is_catalog(catalog_after(rt.alloc(), 0), FIRST_LINES, LAST_LINES));
+    assert!(rt; is_catalog(catalog_after(rt.alloc(), 2), b"", LAST_LINES));
+    assert!(rt; is_catalog(catalog_after(rt.alloc(), 7), b"", b""));
 }

@@ -12,7 +12,7 @@ pub mod Migrating
 pub mod SameRuns
 pub mod Crashing
 pub mod Surveying
-pub mod Cataloguing
+pub mod KeepingRows
 mod Examples
 pub mod StoreFaults
 pub mod Applying

@@ -1,8 +1,5 @@
 // How a catalog is made: the content of each entry is read once, one after another.
 ghost use Rattle.std.specs.Prelude.{◌≡◌, ◌⊎◌, IfErr, IfOk, IsTrue, map};
-ghost use Rattle.mime_decode.specs.Mail.{IsReadable};
-ghost use Rattle.mime_tree.specs.declared.error.MessageError.TheVariants as message;
-ghost use Rattle.sqlite.specs.Held.{state};
 ghost use Rattle.part_store.specs.Access.{ReadsStore};
 ghost use Rattle.part_store.specs.Calls.{Always, CommitsNothing, IfDone, IfRefused, Tells};
 ghost use Rattle.part_store.specs.Entries.{Entries, Entry, entries_of, listing_of};
@@ -70,9 +67,9 @@ fn keep_all<'r, S: Alter>(
     user: &str,
     rows: &'r [EntryRow],
 ) -> Result<Vec<Kept<'r>>, Refusal>
-    ensures answer { Tells S.Store store.old store.new result (λ before kept.
-        AreListed user.now rows.now before → map known_as kept.items
-        ≡ map known_of (map filed_of (entries_of user.now before))) }
+    ensures answer { IfDone S.Store store.old store.new result (λ kept old _. (before : Entries)
+        → (IsTrue old.is_open → Stands old.now before) → AreListed user.now rows.now before
+        → map known_as kept.items ≡ map known_of (map filed_of (entries_of user.now before))) }
     ensures unchanged { Always S.Store store.old store.new LeavesUnchanged }
     ensures refused { IfErr result (λ e. (e ≡ Memory) ⊎ (e ≡ Database)) }
     ensures cause { IfRefused S.Store store.old store.new result

@@ -5,7 +5,7 @@ use Rattle.std.proofs.Math.Logic.{∥∥₁_elim, ∥∥₁_map}
 use Rattle.sqlite.specs.Recovery.{Image}
 use Rattle.part_store.specs.Entries.{Entries}
 use Rattle.part_store.specs.Opening.{HoldsState}
-use Rattle.depot_actions.specs.DepotState.{Accepts, Command, Deliver, Export, ListAll, ListSince, Migrate, ProgramOf, Remove, Reply, SetCode, SetScript}
+use Rattle.depot_actions.specs.DepotState.{Accepts, Catalog, Command, Deliver, Export, ListAll, ListSince, Migrate, ProgramOf, Remove, Reply, SetCode, SetScript}
 use Rattle.depot_actions.specs.History.{IsStep}
 use Rattle.depot_actions.specs.Runs.{HoldsAfter, IsRunStep, IsSessionStep, Leads, NotOpened, Ran, Session}
 use Rattle.volumes.specs.Folders.{AreChanges, HasBegun, HoldAfter, HoldAfterAll, HoldVolumes, IsOver, IsOverOne, IsChange, Change}
@@ -30,6 +30,7 @@ module _ (es : List Entries) (v new : Entries) (ls : List Entries) where
   on_volumes (Deliver user message) reply on accepts = on_one (Deliver user message) reply on accepts
   on_volumes (ListAll user) reply on accepts = absurd on
   on_volumes (ListSince user number) reply on accepts = absurd on
+  on_volumes (Catalog user number) reply on accepts = absurd on
   on_volumes (ProgramOf user) reply on accepts = on_one (ProgramOf user) reply on accepts
   on_volumes (Export user number encoding) reply on accepts = on_one (Export user number encoding) reply on accepts
   on_volumes (Remove user number) reply on accepts = on_one (Remove user number) reply on accepts

@@ -1,5 +1,5 @@
 -- A command that is done on its volume is a step of all volumes as one depot.
-use Rattle.std.proofs.Common.{◌≡◌, ℕ, ◌+◌, ◌<◌, ◌≤◌, Bool, true, false, not, cond, ◌&&◌, ◌==◌, List, [], ◌∷◌, ◌++◌, filter, flat_map, length, Option, Some, None, bytes_eq, append_assoc, refl, sym, ap, ap₂, subst, subst₂, ◌∙◌, inl, inr, arith, eqb-true}
+use Rattle.std.proofs.Common.{◌≡◌, ℕ, ◌+◌, ◌<◌, ◌≤◌, Bool, true, false, not, cond, ◌&&◌, ◌==◌, List, [], ◌∷◌, ◌++◌, filter, flat_map, length, map, Option, Some, None, bytes_eq, append_assoc, refl, sym, ap, ap₂, subst, subst₂, ◌∙◌, inl, inr, arith, eqb-true}
 use Rattle.std.specs.List.{AllByRecursion}
 use Rattle.std.proofs.lemmas.Grind.{flat_map-append}
 use Rattle.std.proofs.lemmas.List.Elements.{filter-append}
@@ -7,15 +7,16 @@ use Rattle.sqlite_rules.specs.Lists.{Has}
 use Rattle.sqlite_rules.proofs.ListLemmas.{all_from, all_has, has_either, has_filtered, has_left, has_right}
 use Rattle.sqlite_trees.specs.Tree.{Trees}
 use Rattle.sqlite_trees.proofs.ListLemmas.{filter_all}
+use Rattle.catalog.specs.Catalog.{catalog}
 use Rattle.part_store.specs.Entries.{Draft, Entries, Entry, is_at, no_entries, numbered, without_entry}
 use Rattle.part_store.specs.Standing.{HasNone, IsEntryAt}
 use Rattle.depot_actions.specs.Causes.{IsColliding, IsFull, IsHindered, NamesNone}
-use Rattle.depot_actions.specs.DepotState.{Accepts, Command, Deliver, Export, ListAll, ListSince, Listed, Migrate, ProgramOf, Remove, Reply, SetCode, SetScript, filed}
+use Rattle.depot_actions.specs.DepotState.{Accepts, Catalog, Command, Deliver, Export, ListAll, ListSince, Listed, Migrate, ProgramOf, Remove, Reply, SetCode, SetScript, Text, filed, filed_of}
 use Rattle.depot_actions.specs.History.{AreSteps, IsStep}
 use Rattle.volumes.specs.OnVolumes.{AcceptOnVolumes, AcceptsOnOne, Began, Called, Event, IsAnswered, IsDoneOn, MakeAll, calls_in}
 use Rattle.volumes.specs.Places.{IsFirstUpTo}
 use Rattle.volumes.specs.Volumes.{AreVolumes, ComeAfter, ComesAfter, current, newest_after, whole}
-use Rattle.volumes.proofs.Whole.{begins_after, begins_whole, bytes_same, join_after, newest_join, not_earlier, not_later, older_and, same_bytes, since_listings, split_after, user_listings, whole_at}
+use Rattle.volumes.proofs.Whole.{begins_after, begins_whole, bytes_same, join_after, newest_join, not_earlier, not_later, older_and, same_bytes, since_listings, split_after, user_entries, user_listings, whole_at}
 
 abbrev entries_in : List Entries → List Entry
 entries_in vs = flat_map (λ (w : Entries). w.entries) vs
@@ -215,6 +216,11 @@ accepts_whole before after (ListAll user) reply are done =
     record { named = done.0; step = (done.1 ∙ ap Listed (sym (user_listings user before)), ap whole done.2) }
 accepts_whole before after (ListSince user number) reply are done =
     record { named = done.0; step = (done.1 ∙ ap Listed (sym (since_listings user number before)), ap whole done.2) }
+accepts_whole before after (Catalog user number) reply are done =
+    record {
+      named = done.0;
+      step = (done.1 ∙ ap (λ (xs : List Entry). Text (catalog number (map filed_of xs))) (sym (user_entries user before)), ap whole done.2);
+    }
 accepts_whole before after (ProgramOf user) reply are done =
     let step = done.accepts.step in
     newest_accepts before after (ProgramOf user) reply done done.on (record { named = done.accepts.named; step = (step.0, ap (older_and done.earlier) step.1) })
@@ -257,6 +263,7 @@ volumes_after before after (Deliver user message) reply are done =
     (λ come. subst (ComeAfter done.new) (sym done.on) tt)
 volumes_after before after (ListAll user) reply are done = subst AreVolumes (sym done.2) are
 volumes_after before after (ListSince user number) reply are done = subst AreVolumes (sym done.2) are
+volumes_after before after (Catalog user number) reply are done = subst AreVolumes (sym done.2) are
 volumes_after before after (ProgramOf user) reply are done =
     kept_after before after (ProgramOf user) reply done are (ap (λ (e : Entries). e.entries) done.accepts.step.1) (ap (λ (e : Entries). e.lasts) done.accepts.step.1)
 volumes_after before after (Export user number encoding) reply are done =
@@ -295,6 +302,7 @@ whole_hindered trees earlier v later Migrate on hindered = subst (λ e. IsHinder
     older : IsHindered Migrate v trees → IsHindered Migrate (older_and earlier v) trees
     older (inl spoilt) = inl spoilt
     older (inr (stored, renewed, are, renewals, full)) = inr (stored, renewed, record { each = are.each; all = are.all; rising = are.rising }, renewals, full)
+whole_hindered trees earlier v later (Catalog user number) on hindered = absurd on
 whole_hindered trees earlier v later _ on hindered = hindered
 
 -- ---- one after another

@@ -1,19 +1,21 @@
--- Commands on volumes: each is done on one of them, and the lists of a user on all.
+-- Commands on volumes: each is done on one of them, and the lists and the catalog of a user on all.
 use Rattle.std.specs.Prelude.{◌≡◌, List, [], ◌∷◌, ◌++◌, map, Option, None, Some}
 use Rattle.std.specs.List.{flat_map}
+use Rattle.catalog.specs.Catalog.{catalog}
 use Rattle.part_store.specs.Entries.{Entries, entries_of, entries_since, listing_of}
-use Rattle.depot_actions.specs.DepotState.{Accepts, Command, Deliver, Export, IsNamed, ListAll, ListSince, Listed, Migrate, ProgramOf, Remove, Reply, SetCode, SetScript}
+use Rattle.depot_actions.specs.DepotState.{Accepts, Catalog, Command, Deliver, Export, IsNamed, ListAll, ListSince, Listed, Migrate, ProgramOf, Remove, Reply, SetCode, SetScript, Text, filed_of}
 use Rattle.depot_actions.specs.History.{Call}
 use Rattle.volumes.specs.Places.{IsFirstUpTo}
 use Rattle.volumes.specs.Volumes.{begun, current}
 
 -- The volume that a command is done on, between the earlier and the later ones: an export and a removal on the first in which
--- the user's last number is at least the entry's, the lists on none alone, and any other command on the current one.
+-- the user's last number is at least the entry's, the lists and the catalog on none alone, and any other command on the current one.
 abbrev pub IsDoneOn : Command → List Entries → Entries → List Entries → Type 0
 IsDoneOn (Export user number encoding) earlier v later = IsFirstUpTo user number earlier v
 IsDoneOn (Remove user number) earlier v later = IsFirstUpTo user number earlier v
 IsDoneOn (ListAll user) earlier v later = ⊥
 IsDoneOn (ListSince user number) earlier v later = ⊥
+IsDoneOn (Catalog user number) earlier v later = ⊥
 IsDoneOn (SetScript user script) earlier v later = later ≡ []
 IsDoneOn (SetCode user program) earlier v later = later ≡ []
 IsDoneOn (Deliver user message) earlier v later = later ≡ []
@@ -31,13 +33,15 @@ pub record AcceptsOnOne (before : List Entries) (command : Command) (reply : Rep
   pub accepts : Accepts old command reply new
   pub are : after ≡ earlier ++ new ∷ later
 
--- Volumes accept a command with this reply, and these are left: a list is the lists of all volumes, one after the other; any
--- other command is done on one.
+-- Volumes accept a command with this reply, and these are left: a list is the lists of all volumes, one after the other, and a
+-- catalog that of the entries of all; any other command is done on one.
 abbrev pub AcceptOnVolumes : List Entries → Command → Reply → List Entries → Type 0
 AcceptOnVolumes before (ListAll user) reply after =
     IsNamed (ListAll user) × (reply ≡ Listed (flat_map (λ v. map listing_of (entries_of user v)) before)) × (after ≡ before)
 AcceptOnVolumes before (ListSince user number) reply after =
     IsNamed (ListSince user number) × (reply ≡ Listed (flat_map (λ v. map listing_of (entries_since user number v)) before)) × (after ≡ before)
+AcceptOnVolumes before (Catalog user number) reply after =
+    IsNamed (Catalog user number) × (reply ≡ Text (catalog number (map filed_of (flat_map (entries_of user) before)))) × (after ≡ before)
 AcceptOnVolumes before command reply after = AcceptsOnOne before command reply after
 
 -- ---- one after another

@@ -6,7 +6,7 @@ ghost use Rattle.sqlite_trees.specs.Tree.{Trees};
 ghost use Rattle.part_store.specs.Entries.{Entries, Entry, entries_of, entries_since, listing_of};
 ghost use Rattle.part_store.specs.Standing.{HasNone, IsEntryAt, IsNumbered};
 ghost use Rattle.depot_actions.specs.Causes.{IsColliding, IsFull, IsHindered, NamesNone};
-ghost use Rattle.depot_actions.specs.DepotState.{Accepts, Command, ListAll, ListSince, Reply};
+ghost use Rattle.depot_actions.specs.DepotState.{Accepts, Catalog, Command, ListAll, ListSince, Reply};
 ghost use Rattle.depot_actions.specs.History.{AreSteps};
 ghost use Rattle.depot_actions.specs.Runs.{Leads, NotOpened, Ran, Session};
 ghost use Rattle.volumes.specs.Beginning.{AreBegun, Count, MayBeBeginning};
@@ -97,8 +97,8 @@ pub fn numbers_lead_to_their_volume()
 
 /// A session over the files of the volume that its command is done on is a session over those of all volumes: in
 /// whatever way it ends, also in a crash, the files hold volumes that are together what the command makes of them, or
-/// what they were. The beginning of a volume, once its files hold it, changes nothing of that. A session that lists,
-/// over any volume, leaves that volume as it was.
+/// what they were. The beginning of a volume, once its files hold it, changes nothing of that. A session that lists or
+/// makes a catalog, over any volume, leaves that volume as it was.
 pub fn sessions_on_volumes_are_steps()
     ensures led { (session : Option Session) (old new : List Image) → IsChange session old new
         → (before : List Entries) → HoldVolumes old before → ∥ HoldAfter session before new ∥₁ }
@@ -106,6 +106,8 @@ pub fn sessions_on_volumes_are_steps()
         → Leads (Ran (ListAll user) reply is_open) was is → Leads NotOpened was is }
     ensures since { (was is : Image) (user : List ℕ) (number : ℕ) (reply : Option Reply) (is_open : Bool)
         → Leads (Ran (ListSince user number) reply is_open) was is → Leads NotOpened was is }
+    ensures catalogs { (was is : Image) (user : List ℕ) (number : ℕ) (reply : Option Reply) (is_open : Bool)
+        → Leads (Ran (Catalog user number) reply is_open) was is → Leads NotOpened was is }
 {}
 
 /// What one session left is what the next one finds. Sessions over the files of volumes, one after another, and volumes

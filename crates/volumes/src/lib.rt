@@ -33,8 +33,8 @@
 //! ### Commands on volumes
 //!
 //! A command on volumes is done on one of them: an export and a removal on the first in which the user's last number is
-//! at least the entry's, and any other on the newest; a list goes through all. With its reply it is a step of all
-//! volumes as one depot, and they stay volumes of one depot. If that volume has a cause to refuse the command (see "When
+//! at least the entry's, and any other on the newest; a list and a catalog go through all. With its reply it is a step of
+//! all volumes as one depot, and they stay volumes of one depot. If that volume has a cause to refuse the command (see "When
 //! a command is refused"), all volumes together have it. Whatever is called, and whenever a volume begins, together they
 //! hold what the accepted commands make, one after another. The same holds for sessions over the files of volumes, each
 //! over the files of one, also if crashes end them.
@@ -46,7 +46,7 @@
 //! failure. Besides the refusals that its command can get, a call can be refused `Memory` or `Database`, because the
 //! volumes can't be opened, read or begun. `NoSuchEntry` and `NumberFull` have their cause in all volumes together. An
 //! export writes what its entry's text is, or a beginning of it. If the next volume begins before a delivery, it counts
-//! only with the users of the newest. When it begins is not promised.
+//! only with the users of the newest. When it begins is not promised. No call makes a catalog of volumes.
 //!
 //! ### The volume of a number
 //!

@@ -4,7 +4,7 @@ use Rattle.depot_actions.specs.Causes.{IsIllegible}
 use Rattle.sqlite.specs.State.{HasCleanDisk}
 use Rattle.std.proofs.Common.{arith}
 use Rattle.sqlite.specs.Held.{state}
-use Rattle.depot_actions.proofs.Cataloguing.{all_kept, one_kept, unkept_row}
+use Rattle.depot_actions.proofs.KeepingRows.{all_kept, one_kept, unkept_row}
 use Rattle.depot_actions.proofs.cataloguing.keep_all.Goals as goal
 
 pub loop-row-preserved : goal.loop-row-preserved
@@ -16,8 +16,8 @@ loop-row-preserved g c =
     c.loop-row.invariant c.keep_one.ensures.reads.survives c.keep_one.ensures.reads.unchanged c.in_ok-one.ensures.reads.was_open c.in_ok-one.ensures.answer
 
 pub returns-clause-answer : goal.returns-clause-answer
-returns-clause-answer g c clean before stands =
-    all_kept c.args.user.now c.args.rows.now c.loop-row.row-index c.loop-row.kept.items (state g.S.Store c.args.store.now) (state g.S.Store c.loop-row.store) c.loop-row-test.false c.loop-row.invariant clean before stands
+returns-clause-answer g c clean before standing =
+    all_kept c.args.user.now c.args.rows.now c.loop-row.row-index c.loop-row.kept.items (state g.S.Store c.args.store.now) (state g.S.Store c.loop-row.store) c.loop-row-test.false c.loop-row.invariant clean before standing
 
 pub returns-in_err-one-clause-cause : goal.returns-in_err-one-clause-cause
 returns-in_err-one-clause-cause g c clean =

@@ -1,5 +1,5 @@
 use Rattle.sqlite.specs.Held.{state}
-use Rattle.depot_actions.proofs.Cataloguing.{KeepingEach}
+use Rattle.depot_actions.proofs.KeepingRows.{KeepingEach}
 use Rattle.depot_actions.proofs.cataloguing.keep_all.Given as goal
 
 abbrev pub invariant-loop-row : goal.invariant-loop-row

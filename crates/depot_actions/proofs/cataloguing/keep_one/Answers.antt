@@ -4,7 +4,7 @@ use Rattle.part_store.specs.Standing.{HasNone}
 use Rattle.part_store.specs.Verifying.{IsAltered}
 use Rattle.std.proofs.Common.{◌⊎◌, inl, sym, ap, ◌∙◌}
 use Rattle.sqlite.specs.Held.{state}
-use Rattle.depot_actions.proofs.Cataloguing.{keep_fault, keep_refused, kept_of_row}
+use Rattle.depot_actions.proofs.KeepingRows.{keep_fault, keep_refused, kept_of_row}
 use Rattle.depot_actions.proofs.cataloguing.keep_one.Goals as goal
 
 pub returns-in_err-octets-clause-cause : goal.returns-in_err-octets-clause-cause

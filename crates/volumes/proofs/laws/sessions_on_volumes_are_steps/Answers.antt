@@ -1,4 +1,4 @@
-use Rattle.depot_actions.specs.DepotState.{ListAll, ListSince}
+use Rattle.depot_actions.specs.DepotState.{Catalog, ListAll, ListSince}
 use Rattle.volumes.proofs.Lifting.{led_steps, list_spares}
 use Rattle.volumes.proofs.laws.sessions_on_volumes_are_steps.Goals as goal
 
@@ -10,3 +10,6 @@ returns-clause-lists c was is user = list_spares (ListAll user) (λ v new told a
 
 pub returns-clause-since : goal.returns-clause-since
 returns-clause-since c was is user number = list_spares (ListSince user number) (λ v new told accepts. accepts.step.1) was is
+
+pub returns-clause-catalogs : goal.returns-clause-catalogs
+returns-clause-catalogs c was is user number = list_spares (Catalog user number) (λ v new told accepts. accepts.step.1) was is

@@ -3,7 +3,7 @@ use Rattle.depot_actions.specs.Applying.{Applies}
 use Rattle.depot_actions.specs.DepotState.{Catalog, Text}
 use Rattle.depot_actions.specs.Users.{is_user_name}
 use Rattle.depot_actions.proofs.Applying.{unnamed}
-use Rattle.depot_actions.proofs.Cataloguing.{catalogued}
+use Rattle.depot_actions.proofs.KeepingRows.{catalogued}
 use Rattle.depot_actions.proofs.depot.Depot.catalog.Goals as goal
 
 pub returns-then-not-is_user_name : goal.returns-then-not-is_user_name

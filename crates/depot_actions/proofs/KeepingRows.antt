@@ -81,7 +81,7 @@ entry_of_row user rows before place row are within at =
 pub record KeepingEach (user : List ℕ) (rows : List EntryRow) (place : ℕ) (kept : List Kept) (old now : State) : Type 0 where
   pub survives : Survives old now (λ _. ⊥)
   pub unchanged : HasCleanDisk now → LeavesUnchanged old now
-  pub told : HasCleanDisk now → (before : Entries) → Stands old.now before → AreListed user rows before → map known_as kept ≡ map known_of (map filed_of (take place (entries_of user before)))
+  pub told : HasCleanDisk now → (before : Entries) → (IsTrue old.is_open → Stands old.now before) → AreListed user rows before → map known_as kept ≡ map known_of (map filed_of (take place (entries_of user before)))
 
 -- what is kept of the entry of a row
 abbrev pub IsKeptOf : List ℕ → EntryRow → Entries → Kept → Type 0
@@ -106,22 +106,24 @@ one_kept user rows place row kept more one old mid new within at all so_far surv
     record {
       survives = survived_then old mid new so_far.survives survives;
       unchanged = λ clean. unchanged_twice old mid new so_far.survives.counts survives.counts (so_far.unchanged (early clean)) (unchanged clean);
-      told = λ clean before stands are.
-          let there = stands_still old mid before (so_far.unchanged (early clean)) stands (was_open clean) in
+      told = λ clean before standing are.
+          let spares = so_far.unchanged (early clean) in
+          let stands = standing (spares.stays_closed (was_open clean)) in
+          let there = stands_still old mid before spares stands (was_open clean) in
           let (x, of_row) = entry_of_row user rows before place row are within at in
           let (y, at_y, is) = told clean before there in
           let same = one_entry before stands.tables.numbers user row.number y x at_y of_row.there in
           one_more (entries_of user before) place x kept more one of_row.found all
           (is (of_row.is ∙ sym (ap listing_of same)) ∙ ap (λ (e : Entry). known_of (filed_of e)) same)
-          (so_far.told (early clean) before stands are);
+          (so_far.told (early clean) before standing are);
     }
 
 pub all_kept : (user : List ℕ) (rows : List EntryRow) (place : ℕ) (kept : List Kept) (old now : State) → length rows ≤ place → KeepingEach user rows place kept old now → HasCleanDisk now → (before : Entries)
-    → Stands old.now before → AreListed user rows before → map known_as kept ≡ map known_of (map filed_of (entries_of user before))
-all_kept user rows place kept old now whole keeping clean before stands are =
+    → (IsTrue old.is_open → Stands old.now before) → AreListed user rows before → map known_as kept ≡ map known_of (map filed_of (entries_of user before))
+all_kept user rows place kept old now whole keeping clean before standing are =
     let xs = entries_of user before in
     let long : length xs ≡ length rows = sym (length-map xs listing_of) ∙ sym (ap length are) ∙ length-map rows listed in
-    keeping.told clean before stands are ∙ ap (λ l. map known_of (map filed_of l)) (take_all place xs (omega (arith, long, whole)))
+    keeping.told clean before standing are ∙ ap (λ l. map known_of (map filed_of l)) (take_all place xs (omega (arith, long, whole)))
 
 -- ---- why a content isn't read
 
@@ -212,7 +214,7 @@ pub keep_refused : (r : Result Kept MessageError) (told : Result Kept Refusal) �
 keep_refused (Ok x) told cases = told_err unread_as (λ e. (e ≡ Memory) ⊎ (e ≡ Database)) (Ok x) told cases tt
 keep_refused (Err e) told cases = told_err unread_as (λ e. (e ≡ Memory) ⊎ (e ≡ Database)) (Err e) told cases (unread_which e)
 
-filed_listed : Listing → List ℕ → Filed
+abbrev filed_listed : Listing → List ℕ → Filed
 filed_listed l octets = record { number = l.number; folder = l.folder; name = l.name; media = l.media; is_message = is_message l.kind; octets = octets }
 
 filed_row : (row : EntryRow) (folder name media octets : List ℕ) (m : Bool) → folder ≡ row.folder.items → name ≡ row.name.items → media ≡ row.media.items → m ≡ is_message row.kind
