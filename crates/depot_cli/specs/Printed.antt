@@ -11,7 +11,7 @@ use Rattle.part_store.specs.declared.entry.Kind.TheVariants.{Message, Part as Pi
 use Rattle.part_store.specs.declared.scrubbing.DamagedEntry.{DamagedEntry}
 use Rattle.part_store.specs.declared.scrubbing.Scrubbed.{Scrubbed}
 use Rattle.part_store.specs.declared.totals.ContentTotal.{ContentTotal}
-use Rattle.depot_actions.specs.DepotState.{Command, Reply, SetScript, SetCode, Deliver, ListAll, ListSince, Export, Remove, Migrate, Listed, Migrated}
+use Rattle.depot_actions.specs.DepotState.{Command, Reply, SetScript, SetCode, Deliver, ListAll, ListSince, Catalog, Export, Remove, Migrate, Listed, Migrated}
 use Rattle.depot_actions.specs.DepotState.{Text as Written}
 use Rattle.depot_actions.specs.declared.overview.Overview.{Overview}
 use Rattle.depot_actions.specs.declared.overview.UserOverview.{UserOverview}
@@ -66,6 +66,7 @@ reply_text (SetCode user program) reply = stored_text
 reply_text (Deliver user message) (Listed entries) = entries_text Brief entries
 reply_text (ListAll user) (Listed entries) = entries_text Full entries
 reply_text (ListSince user number) (Listed entries) = entries_text Full entries
+reply_text (Catalog user number) (Written text) = text
 reply_text (Export user number encoding) (Written text) = text
 reply_text (Remove user number) reply = removed_text number
 reply_text Migrate (Migrated number) = migrated_text number
@@ -78,6 +79,7 @@ Tells (SetCode user program) reply told = told ≡ replies.Stored
 Tells (Deliver user message) reply told = (rows : Vec EntryRow Global) × (told ≡ replies.Filed rows) × (reply ≡ Listed (map listed rows.items))
 Tells (ListAll user) reply told = (rows : Vec EntryRow Global) × (told ≡ replies.Listed rows) × (reply ≡ Listed (map listed rows.items))
 Tells (ListSince user number) reply told = (rows : Vec EntryRow Global) × (told ≡ replies.Listed rows) × (reply ≡ Listed (map listed rows.items))
+Tells (Catalog user number) reply told = (text : Vec ℕ Global) × (told ≡ replies.Catalog text) × (reply ≡ Written text.items)
 Tells (Remove user number) reply told = told ≡ replies.Removed number
 Tells Migrate reply told = (count : ℕ) × (told ≡ replies.Migrated count) × (reply ≡ Migrated count)
 Tells command reply told = ⊥
@@ -87,6 +89,7 @@ abbrev pub text_in : Replied → List ℕ
 text_in replies.Stored = stored_text
 text_in (replies.Filed rows) = entries_text Brief (map listed rows.items)
 text_in (replies.Listed rows) = entries_text Full (map listed rows.items)
+text_in (replies.Catalog text) = text.items
 text_in (replies.Removed number) = removed_text number
 text_in (replies.Migrated count) = migrated_text count
 

@@ -5,7 +5,7 @@ use Rattle.depot_actions.specs.DepotState.{Command}
 use Rattle.depot_actions.specs.DepotState as depot
 use Rattle.depot_jobs.specs.Requests.{Request, Task}
 use Rattle.depot_jobs.specs.declared.request.Access.{Access}
-use Rattle.depot_jobs.specs.declared.request.Access.TheVariants.{List as ListEntries, Since, Remove}
+use Rattle.depot_jobs.specs.declared.request.Access.TheVariants.{List as ListEntries, Since, Catalog, Remove}
 use Rattle.depot_jobs.specs.declared.request.Deposit.{Deposit}
 use Rattle.depot_jobs.specs.declared.request.Deposit.TheVariants.{Script, Code, Message}
 use Rattle.depot_jobs.specs.declared.request.OnDepot.{OnDepot}
@@ -23,6 +23,7 @@ deposit_command Message user octets = depot.Deliver user octets
 abbrev pub access_command : Access → List ℕ → Command
 access_command ListEntries user = depot.ListAll user
 access_command (Since number) user = depot.ListSince user number
+access_command (Catalog number) user = depot.Catalog user number
 access_command (Remove number) user = depot.Remove user number
 
 -- what a command asks of the depot, with the octets of what stands for its file

@@ -29,7 +29,7 @@ use std::alloc::Global;
 pub enum WithReply<'a, F> {
     /// Store a filter, or file a message, for the user with this name.
     FromFile(Deposit, &'a str, F),
-    /// List or remove entries of the user with this name.
+    /// List, describe or remove entries of the user with this name.
     OnUser(Access, &'a str),
     /// Give all users' filters the latest version of the bytecode.
     Migrate,
@@ -44,6 +44,8 @@ pub enum Reply {
     Filed(Vec<EntryRow>),
     /// A user's entries, all of them or those above a number.
     Listed(Vec<EntryRow>),
+    /// The catalog of a user's entries, all of them or those above a number.
+    Catalog(Vec<u8>),
     /// The entry with this number was removed.
     Removed(u32),
     /// This many filters were given the latest version.
@@ -157,6 +159,10 @@ pub fn reply_to<S: Alter>(
                 Ok(rows) => Ok(Reply::Listed(rows)),
                 Err(refusal) => Err(refusal),
             },
+            Access::Catalog { number } => match depot.catalog(alloc, user, number) {
+                Ok(text) => Ok(Reply::Catalog(text)),
+                Err(refusal) => Err(refusal),
+            },
             Access::Remove { number } => match depot.remove(user, number) {
                 Ok(()) => Ok(Reply::Removed(number)),
                 Err(refusal) => Err(refusal),
@@ -169,7 +175,8 @@ pub fn reply_to<S: Alter>(
     }
 }
 
-/// A reply is printed as its lines: for example `stored` for a filter, and `removed 1` for entry 1.
+/// A reply is printed as its lines: for example `stored` for a filter, and `removed 1` for entry 1. A catalog is printed
+/// as it is.
 impl Printable for Reply {
     ghost text = { text_in };
 
@@ -178,6 +185,7 @@ impl Printable for Reply {
             Reply::Stored => print_line(page, "stored"),
             Reply::Filed(rows) => print_entries(page, Detail::Brief, rows),
             Reply::Listed(rows) => print_entries(page, Detail::Full, rows),
+            Reply::Catalog(text) => page.write(text.as_slice()),
             Reply::Removed(number) => print_removed(page, *number),
             Reply::Migrated(count) => print_migrated(page, *count),
         }

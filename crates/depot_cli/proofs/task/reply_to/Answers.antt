@@ -1,6 +1,6 @@
 use Rattle.std.proofs.Common.{map, refl}
 use Rattle.part_store.specs.Standing.{listed}
-use Rattle.depot_actions.specs.DepotState.{Listed, Migrated}
+use Rattle.depot_actions.specs.DepotState.{Listed, Migrated, Text}
 use Rattle.depot_cli.proofs.task.reply_to.Goals as goal
 
 pub returns-in-Ok-deliver-clause-done : goal.returns-in-Ok-deliver-clause-done
@@ -11,6 +11,9 @@ returns-in-Ok-list-clause-done g c = rw (c.in-OnUser.is, c.in-List.is) (Listed (
 
 pub returns-in-Ok-list_since-clause-done : goal.returns-in-Ok-list_since-clause-done
 returns-in-Ok-list_since-clause-done g c = rw (c.in-OnUser.is, c.in-Since.is) (Listed (map listed c.in-Ok-list_since.rows.items), c.in-Ok-list_since.ensures.done, refl, (c.in-Ok-list_since.rows, refl, refl))
+
+pub returns-in-Ok-catalog-clause-done : goal.returns-in-Ok-catalog-clause-done
+returns-in-Ok-catalog-clause-done g c = rw (c.in-OnUser.is, c.in-Catalog.is) (Text c.in-Ok-catalog.text.items, c.in-Ok-catalog.ensures.done, refl, (c.in-Ok-catalog.text, refl, refl))
 
 pub returns-in-Ok-migrate-clause-done : goal.returns-in-Ok-migrate-clause-done
 returns-in-Ok-migrate-clause-done g c = rw c.in-Migrate.is (Migrated c.in-Ok-migrate.count, c.in-Ok-migrate.ensures.done, refl, (c.in-Ok-migrate.count, refl, refl))
