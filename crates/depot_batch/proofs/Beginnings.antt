@@ -1,17 +1,19 @@
 -- How an input begins.
-use Rattle.std.proofs.Common.{◌≡◌, ◌≢◌, ◌∙◌, ◌<◌, ap, append_assoc, arith, refl, subst, sym, drop, length, take, ℕ, List, [], ◌∷◌, ◌++◌, Option, Some, None, IfSome, Result, codes, false, nat_eq, true, true≢false}
+use Rattle.std.proofs.Common.{◌≡◌, ◌≢◌, ◌∙◌, ◌<◌, ap, append_assoc, arith, refl, subst, sym, drop, length, take, ℕ, List, [], ◌∷◌, ◌++◌, Option, Some, None, IfSome, Result, codes, nat_eq, true}
 use Rattle.std.specs.Io.{StartsWith}
 use Rattle.std.specs.Io.KnownBytes.{Consumes}
 use Rattle.std.specs.List.{All, concat, starts_with}
 use Rattle.std.proofs.KnownBytes.{starts_with_rest}
 use Rattle.std.proofs.Math.ListN.{get_or}
+use Rattle.std.proofs.lemmas.Bool.Decides.{Decides-eqb}
 use Rattle.std.proofs.lemmas.List.Elements.{All-cons, All-head, All-nil, All-tail}
+use Rattle.std.proofs.lemmas.Slice.Eq.{starts_is}
 use Rattle.sqlite_trees.specs.declared.store.Store.{Ghosts}
 use Rattle.sqlite.specs.Held.{Held}
 use Rattle.devices.specs.Supply.{HasGiven, Supply}
 use Rattle.refusals.specs.declared.refusal.Refusal.{Refusal}
 use Rattle.depot_batch.specs.Effects.{DepotAndOutput}
-use Rattle.depot_batch.specs.Lines.{HasShown, HasTakenAll, IsLine}
+use Rattle.depot_batch.specs.Lines.{HasShown, HasTakenAll, IsDeliveryLine, IsLine}
 use Rattle.depot_batch.specs.Private.{Begins, BeginsOtherwise, HasBegun, HasFirst, HasTakenNext, HasTurned}
 use Rattle.depot_batch.specs.Turns.{json_line}
 use Rattle.depot_batch.specs.declared.first.First.{First}
@@ -85,17 +87,52 @@ first_end line old new none end = ((none, end), λ is. omega (arith, ap length n
 
 -- ---- lines that are ready
 
-shown_otherwise : (left : Option (List ℕ)) (lines : List (List ℕ)) → IfSome left (λ all. StartsWith all (concat lines)) → 0 < length lines → All IsLine lines → All (λ line. line ≢ json_line) lines
+-- a line at the front of octets begins as they do, where that has no line break
+line_begins : (front text rest more : List ℕ) → All IsInner front → text ++ 10 ∷ rest ≡ front ++ more → StartsWith (text ++ 10 ∷ []) front
+line_begins [] text rest more inner is = refl
+line_begins (c ∷ front) [] rest more inner is = absurd (All-head IsInner c front inner (sym (ap (λ l. get_or l 0 0) is)))
+line_begins (c ∷ front) (d ∷ text) rest more inner is =
+    let one : d ≡ c = ap (λ l. get_or l 0 0) is in
+    let later : StartsWith (text ++ 10 ∷ []) front = line_begins front text rest more (All-tail IsInner c front inner) (ap (drop 1) is) in
+    ap (λ o. o ∷ take (length front) (text ++ 10 ∷ [])) one ∙ ap (λ l. c ∷ l) later
+
+delivery_inner : All IsInner (codes "deliver ")
+delivery_inner =
+    All-cons IsInner 100 (101 ∷ 108 ∷ 105 ∷ 118 ∷ 101 ∷ 114 ∷ 32 ∷ []) (λ e. omega (arith, e))
+    (All-cons IsInner 101 (108 ∷ 105 ∷ 118 ∷ 101 ∷ 114 ∷ 32 ∷ []) (λ e. omega (arith, e))
+    (All-cons IsInner 108 (105 ∷ 118 ∷ 101 ∷ 114 ∷ 32 ∷ []) (λ e. omega (arith, e))
+    (All-cons IsInner 105 (118 ∷ 101 ∷ 114 ∷ 32 ∷ []) (λ e. omega (arith, e))
+    (All-cons IsInner 118 (101 ∷ 114 ∷ 32 ∷ []) (λ e. omega (arith, e))
+    (All-cons IsInner 101 (114 ∷ 32 ∷ []) (λ e. omega (arith, e))
+    (All-cons IsInner 114 (32 ∷ []) (λ e. omega (arith, e)) (All-cons IsInner 32 [] (λ e. omega (arith, e)) (All-nil IsInner))))))))
+
+-- a line of octets that begin as a delivery does
+pub delivery_line : (octets line rest : List ℕ) → IsLine line → octets ≡ line ++ rest → starts_with nat_eq octets (codes "deliver ") ≡ true → IsDeliveryLine line
+delivery_line octets line rest is are starts =
+    let begun : octets ≡ codes "deliver " ++ drop 8 octets = (starts_is Decides-eqb octets (codes "deliver ") _ refl).0 starts in
+    let both : is.text ++ 10 ∷ rest ≡ codes "deliver " ++ drop 8 octets =
+    sym (append_assoc is.text (10 ∷ []) rest) ∙ ap (λ l. l ++ rest) (sym is.ends) ∙ sym are ∙ begun in
+    record { whole = is; begins = subst (λ l. StartsWith l (codes "deliver ")) (sym is.ends) (line_begins (codes "deliver ") is.text rest (drop 8 octets) delivery_inner both) }
+
+-- it isn't the line that asks for JSON
+not_json : (line : List ℕ) → IsDeliveryLine line → line ≢ json_line
+not_json line is same =
+    let begins : StartsWith json_line (codes "deliver ") = subst (λ l. StartsWith l (codes "deliver ")) same is.begins in
+    let differ : 106 ≡ 100 = ap (λ l. get_or l 0 0) begins in
+    omega (arith, differ)
+
+shown_otherwise : (left : Option (List ℕ)) (lines : List (List ℕ)) → IfSome left (λ all. StartsWith all (concat lines)) → 0 < length lines → All IsDeliveryLine lines
     → IfSome left (λ all. StartsWith all json_line → ⊥)
-shown_otherwise None lines shown some are others = tt
-shown_otherwise (Some all) [] shown some are others = absurd (omega (arith, some))
-shown_otherwise (Some all) (line ∷ lines) shown some are others = λ starts.
+shown_otherwise None lines shown some are = tt
+shown_otherwise (Some all) [] shown some are = absurd (omega (arith, some))
+shown_otherwise (Some all) (line ∷ lines) shown some are = λ starts.
+    let first = All-head IsDeliveryLine line lines are in
     let is : all ≡ line ++ (concat lines ++ drop (length (line ++ concat lines)) all) =
     starts_with_rest all (line ++ concat lines) shown ∙ append_assoc line (concat lines) (drop (length (line ++ concat lines)) all) in
-    All-head (λ l. l ≢ json_line) line lines others (is_json all line _ (All-head IsLine line lines are) is starts)
+    not_json line first (is_json all line _ first.whole is starts)
 
-pub ready_otherwise : (lines : List (List ℕ)) (old new : Supply) → HasShown (concat lines) old new → 0 < length lines → All IsLine lines → All (λ line. line ≢ json_line) lines → BeginsOtherwise old
-ready_otherwise lines old new shown some are others = shown_otherwise old.left lines shown.next some are others
+pub ready_otherwise : (lines : List (List ℕ)) (old new : Supply) → HasShown (concat lines) old new → 0 < length lines → All IsDeliveryLine lines → BeginsOtherwise old
+ready_otherwise lines old new shown some are = shown_otherwise old.left lines shown.next some are
 
 starts_nothing : (left : Option (List ℕ)) → IfSome left (λ all. StartsWith all [])
 starts_nothing None = tt
@@ -104,13 +141,6 @@ starts_nothing (Some all) = refl
 -- nothing of it was taken
 pub shown_nothing : (octets : List ℕ) (old new : Supply) → HasShown octets old new → HasShown [] old new
 shown_nothing octets old new shown = record { left = shown.left; next = starts_nothing old.left; given = shown.given; faults = shown.faults }
-
--- octets that begin as a delivery does don't begin with that line
-pub not_json : (octets line rest : List ℕ) → starts_with nat_eq octets (codes "deliver ") ≡ true → octets ≡ line ++ rest → line ≢ json_line
-not_json octets line rest starts are is =
-    let both : octets ≡ json_line ++ rest = are ∙ ap (λ l. l ++ rest) is in
-    let other : false ≡ true = subst (λ (o : List ℕ). starts_with nat_eq o (codes "deliver ") ≡ true) both starts in
-    true≢false (sym other)
 
 -- ---- the first turn
 

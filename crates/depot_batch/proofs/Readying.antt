@@ -9,7 +9,7 @@ use Rattle.std.proofs.lemmas.List.{map-append, map_more, take-append-drop, take_
 use Rattle.std.proofs.lemmas.List.Elements.{All-push, All-take}
 use Rattle.std.proofs.lemmas.List.Folds.{concat-append}
 use Rattle.devices.specs.Supply.{HasGiven, Supply}
-use Rattle.depot_batch.specs.Lines.{HasShown, IsLine}
+use Rattle.depot_batch.specs.Lines.{HasShown, IsDeliveryLine, IsLine}
 use Rattle.depot_batch.specs.Private.{CanTake, lines_of}
 
 -- ---- how many octets lines have
@@ -59,11 +59,11 @@ takes_front None limit m n less fits = tt
 takes_front (Some all) limit m n less fits = fits_front limit m n less fits
 
 module _ (all front later : List (Vec ℕ Global)) (are : all ≡ front ++ later) where
-  pub first_whole : All IsLine (lines_of all) → All IsLine (lines_of front)
+  pub first_whole : All IsDeliveryLine (lines_of all) → All IsDeliveryLine (lines_of front)
   first_whole whole =
       let both : lines_of all ≡ lines_of front ++ lines_of later = ap lines_of are ∙ map-append (λ (l : Vec ℕ Global). l.items) front later in
-      subst (All IsLine) (take-append_seam (lines_of front) (lines_of later))
-      (All-take IsLine (length (lines_of front)) (lines_of front ++ lines_of later) (subst (All IsLine) both whole))
+      subst (All IsDeliveryLine) (take-append_seam (lines_of front) (lines_of later))
+      (All-take IsDeliveryLine (length (lines_of front)) (lines_of front ++ lines_of later) (subst (All IsDeliveryLine) both whole))
 
   pub first_few : (most : ℕ) → length (lines_of all) ≤ most → length (lines_of front) ≤ most
   first_few most few =

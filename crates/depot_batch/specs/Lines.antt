@@ -1,5 +1,5 @@
 -- The lines of an input.
-use Rattle.std.specs.Prelude.{◌≡◌, ◌≢◌, ℕ, List, [], ◌∷◌, ◌++◌, IfSome, true}
+use Rattle.std.specs.Prelude.{◌≡◌, ◌≢◌, ℕ, List, [], ◌∷◌, ◌++◌, IfSome, codes, true}
 use Rattle.std.specs.Io.{StartsWith, StopsAt}
 use Rattle.std.specs.Io.KnownBytes.{Keeps}
 use Rattle.std.specs.List.{All}
@@ -12,6 +12,11 @@ pub record IsLine (octets : List ℕ) : Type 0 where
   pub text : List ℕ
   pub ends : octets ≡ text ++ 10 ∷ []
   pub plain : All (λ octet. octet ≢ 10) text
+
+-- a line that begins as one does that asks for a delivery
+pub record IsDeliveryLine (octets : List ℕ) : Type 0 where
+  pub whole : IsLine octets
+  pub begins : StartsWith octets (codes "deliver ")
 
 -- what an input may end with that is no line: octets, one at least, with no line break among them
 pub record IsUnfinished (octets : List ℕ) : Type 0 where

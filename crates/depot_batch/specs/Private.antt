@@ -30,7 +30,7 @@ use Rattle.depot_batch.specs.declared.together.Tried.TheVariants as tried
 use Rattle.depot_batch.specs.Asked.{Text}
 use Rattle.depot_batch.specs.Batch.{Happens}
 use Rattle.depot_batch.specs.Effects.{DepotAndOutput, IsUnread, depot_and_output, most_together}
-use Rattle.depot_batch.specs.Lines.{HasShown, HasTakenAll, IsLine, IsUnfinished}
+use Rattle.depot_batch.specs.Lines.{HasShown, HasTakenAll, IsDeliveryLine, IsLine, IsUnfinished}
 use Rattle.depot_batch.specs.Turns.{Alone, EndsBy, GoesOn, Takes, Together, Turn, Whole, Withdrawn, json_line}
 use Rattle.depot_batch.specs.Words.{texts_of}
 
@@ -67,10 +67,9 @@ parted_at len line = parted (take len line) (drop len line)
 abbrev pub lines_of : List (Vec ℕ Global) → List (List ℕ)
 lines_of lines = map (λ line. line.items) lines
 
--- octets begin with these lines, which are few enough to be done together
+-- octets begin with these lines, which begin as deliveries do and are few enough to be done together
 pub record AreShown (lines : List (List ℕ)) (octets : List ℕ) : Type 0 where
-  pub whole : All IsLine lines
-  pub others : All (λ line. line ≢ json_line) lines
+  pub whole : All IsDeliveryLine lines
   pub few : length lines ≤ most_together
   pub small : length octets < 2 ^ 64
   pub later : List ℕ
@@ -78,17 +77,15 @@ pub record AreShown (lines : List (List ℕ)) (octets : List ℕ) : Type 0 where
 
 -- what an input has ready; nothing was taken but its end
 abbrev pub IsAhead : Ahead → Supply → Supply → Type 0
-IsAhead (Deliveries lines) old new = All IsLine (lines_of lines.items) × (length (lines_of lines.items) ≤ most_together)
+IsAhead (Deliveries lines) old new = All IsDeliveryLine (lines_of lines.items) × (length (lines_of lines.items) ≤ most_together)
     × HasShown (concat (lines_of lines.items)) old new × (0 < length (lines_of lines.items))
-    × All (λ line. line ≢ json_line) (lines_of lines.items)
 IsAhead Other old new = HasShown [] old new
 IsAhead End old new = HasTakenAll [] old new
 
 -- what a reader has ready that had so much left
 abbrev pub IsSeen : Ahead → Option (List ℕ) → Type 0
-IsSeen (Deliveries lines) left = All IsLine (lines_of lines.items) × (length (lines_of lines.items) ≤ most_together)
+IsSeen (Deliveries lines) left = All IsDeliveryLine (lines_of lines.items) × (length (lines_of lines.items) ≤ most_together)
     × IfSome left (λ all. StartsWith all (concat (lines_of lines.items))) × (0 < length (lines_of lines.items))
-    × All (λ line. line ≢ json_line) (lines_of lines.items)
 IsSeen Other left = Unit {0}
 IsSeen End left = IfSome left (λ all. all ≡ [])
 

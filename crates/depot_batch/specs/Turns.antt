@@ -7,7 +7,7 @@ use Rattle.devices.specs.Supply.{HasGiven, Supply}
 use Rattle.depot_jobs.specs.Jobs.{HasTold}
 use Rattle.refusals.specs.declared.refusal.Refusal.{Refusal}
 use Rattle.refusals.specs.declared.refusal.Refusal.TheVariants.{Database, Write}
-use Rattle.depot_batch.specs.Lines.{HasNotTaken, HasShown, HasTakenAll, IsLine, IsUnfinished}
+use Rattle.depot_batch.specs.Lines.{HasNotTaken, HasShown, HasTakenAll, IsDeliveryLine, IsLine, IsUnfinished}
 use Rattle.depot_batch.specs.declared.format.Format.{Format}
 use Rattle.depot_batch.specs.declared.format.Format.TheVariants.{Json, Plain}
 use Rattle.depot_batch.specs.declared.outcome.Outcome.{Outcome}
@@ -40,11 +40,12 @@ lines_answered [] = []
 lines_answered (turn ∷ turns) = answered_in turn ++ lines_answered turns
 
 -- What is taken of an input in a turn: the line, or the lines, that are answered in it. Lines that
--- were to be done together come next; none of them is taken.
+-- were to be done together come next; none of them is taken. Only lines that begin as deliveries do
+-- are done together, or were to be.
 abbrev pub Takes : Turn → Supply → Supply → Type 0
 Takes (Alone line outcome) old new = IsLine line × HasGiven line old new
-Takes (Together lines) old new = All IsLine lines × HasGiven (concat lines) old new
-Takes (Withdrawn lines) old new = All IsLine lines × HasShown (concat lines) old new
+Takes (Together lines) old new = All IsDeliveryLine lines × HasGiven (concat lines) old new
+Takes (Withdrawn lines) old new = All IsDeliveryLine lines × HasShown (concat lines) old new
 
 -- a batch goes on after a turn: it is none in which a line was refused `Database`
 abbrev pub GoesOn : Turn → Type 0

@@ -1,12 +1,11 @@
 // The lines that an input has ready.
-ghost use Rattle.std.specs.Prelude.{◌≡◌, ◌≢◌, ◌⊎◌, ◌++◌, ◌<◌, ◌^◌, [], IfErr, IfOk, IfSome, length};
+ghost use Rattle.std.specs.Prelude.{◌≡◌, ◌⊎◌, ◌++◌, ◌<◌, ◌^◌, [], IfErr, IfOk, IfSome, length};
 ghost use Rattle.std.specs.Io.KnownBytes.{Keeps};
 ghost use Rattle.std.specs.List.{concat};
 ghost use Rattle.devices.specs.Supply.{HasGiven, Supply};
 ghost use Rattle.refusals.specs.declared.refusal.Refusal.TheVariants.{Memory, Read};
-ghost use Rattle.depot_batch.specs.Lines.{HasNotTaken, HasShown, IsLine};
+ghost use Rattle.depot_batch.specs.Lines.{HasNotTaken, HasShown, IsDeliveryLine};
 ghost use Rattle.depot_batch.specs.Private.{AreShown, CanTake, IsAhead, IsSeen, MayTake, lines_of};
-ghost use Rattle.depot_batch.specs.Turns.{json_line};
 ghost use Rattle.depot_batch.specs.declared.ahead.Ahead.TheVariants.{Other};
 
 use devices::{OfRead, Source};
@@ -113,8 +112,8 @@ fn deliveries_in(alloc: Global, octets: &[u8]) -> Result<Vec<Vec<u8>>, AllocErro
 
 // The line at the beginning of some bytes, if it is whole and begins as a delivery does, and what comes after it.
 fn first_delivery(octets: &[u8]) -> Option<(&[u8], &[u8])>
-    ensures { IfSome result (λ parts. IsLine parts.0.now
-        × (octets.entry.now ≡ parts.0.now ++ parts.1.now) × (parts.0.now ≢ json_line)) }
+    ensures { IfSome result (λ parts. IsDeliveryLine parts.0.now
+        × (octets.entry.now ≡ parts.0.now ++ parts.1.now)) }
 {
     if !octets.starts_with(DELIVER) {
         return None;

@@ -14,7 +14,7 @@ ghost use Rattle.refusals.specs.declared.refusal.Refusal.TheVariants.{Database};
 ghost use Rattle.devices.specs.Supply.{Supply};
 ghost use Rattle.depot_batch.specs.Batch.{HasServed, IsServed};
 ghost use Rattle.depot_batch.specs.Effects.{depot_and_output, most_together};
-ghost use Rattle.depot_batch.specs.Lines.{HasShown, IsLine};
+ghost use Rattle.depot_batch.specs.Lines.{HasShown, IsDeliveryLine};
 ghost use Rattle.depot_batch.specs.Private.{CanTake, HasBegun, HasFirst, HasTakenNext, HasTurned, format_of, lines_of, on, places_of};
 ghost use Rattle.depot_batch.specs.declared.outcome.Outcome.TheVariants.{Refused};
 
@@ -205,7 +205,7 @@ fn take_turn<S: Alter, H: Host, R: BufRead + Drop, W: Write + Drop>(
 // # Requires
 //
 // - No line is to be done alone.
-// - There are 1 to 64 lines, each whole, with fewer than 2^64 bytes together.
+// - There are 1 to 64 lines, each whole and beginning as a delivery does, with fewer than 2^64 bytes together.
 //
 // # Errors
 //
@@ -217,7 +217,7 @@ fn take_together<S: Alter, H: Host, R: BufRead + Drop, W: Write + Drop>(
     input: &mut OfRead<R>,
 ) -> Result<Option<u8>, Refusal>
     requires none { alone.old ≡ 0 }
-    requires whole { All IsLine (lines_of lines.items) }
+    requires whole { All IsDeliveryLine (lines_of lines.items) }
     requires some { 0 < length (lines_of lines.items) }
     requires few { length (lines_of lines.items) ≤ most_together }
     requires small { length (concat (lines_of lines.items)) < 2 ^ 64 }

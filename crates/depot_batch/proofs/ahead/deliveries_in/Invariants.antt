@@ -1,15 +1,13 @@
-use Rattle.std.proofs.Common.{◌≡◌, ◌≢◌, ◌≤◌, ◌-◌, ◌++◌, vec_len}
+use Rattle.std.proofs.Common.{◌≡◌, ◌≤◌, ◌-◌, ◌++◌, vec_len}
 use Rattle.std.specs.List.{All, concat}
 use Rattle.depot_batch.specs.Effects.{most_together}
-use Rattle.depot_batch.specs.Lines.{IsLine}
+use Rattle.depot_batch.specs.Lines.{IsDeliveryLine}
 use Rattle.depot_batch.specs.Private.{lines_of}
-use Rattle.depot_batch.specs.Turns.{json_line}
 use Rattle.depot_batch.proofs.ahead.deliveries_in.Given as goal
 
 abbrev pub invariant-lines : goal.invariant-lines
 invariant-lines l = record {
-  whole : All IsLine (lines_of l.lines.items);
-  others : All (λ line. line ≢ json_line) (lines_of l.lines.items);
+  whole : All IsDeliveryLine (lines_of l.lines.items);
   few : vec_len l.lines ≤ most_together;
   are : l.octets ≡ concat (lines_of l.lines.items) ++ l.rest;
 }
