@@ -160,7 +160,7 @@ one_line [] visible = refl
 one_line (x ∷ xs) visible = rw (other x 10 (λ e. omega (arith, e, visible.0))) (one_line xs visible.1)
 
 object_passes : (members : Members) (more : List ℕ) → IsVisible (compact_text (object members))
-    → has_closing true (compact_text (object members) ++ 10 ∷ [] ++ more) ≡ has_closing true more
+    → has_closing true ((compact_text (object members) ++ 10 ∷ []) ++ more) ≡ has_closing true more
 object_passes members more visible =
     let text = compact_text (object members) in
     ap (has_closing true) (append_assoc text (10 ∷ []) more) ∙ line_passes text more refl (one_line text visible)
@@ -177,7 +177,7 @@ entry_passes all x more = go x.is_message
     messages : List Place
     messages = messages_with row.digest (messages_of all)
 
-    go : (b : Bool) → has_closing true (cond b (message_line row (mail_of x.octets) stored) (part_line row messages) ++ 10 ∷ [] ++ more) ≡ has_closing true more
+    go : (b : Bool) → has_closing true ((cond b (message_line row (mail_of x.octets) stored) (part_line row messages) ++ 10 ∷ []) ++ more) ≡ has_closing true more
     go true = object_passes _ more (message_plain row (mail_of x.octets) stored).visible
     go false = object_passes _ more (part_plain row messages).visible
 
