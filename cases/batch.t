@@ -66,6 +66,10 @@
     > since ann one
     > since ann -1
     > since ann ""
+    > catalog ann
+    > catalog ann 1 2
+    > catalog ann 4294967296
+    > catalog ann -1
     > export ann 1 base16
     > export ann 1 base17 file
     > export ann 0 raw file
@@ -89,7 +93,7 @@
     = 2
     ? deliver USER MESSAGE
     = 2
-    ? the commands are script, code, deliver, list, since, export, remove and migrate
+    ? the commands are script, code, deliver, list, since, catalog, export, remove and migrate
     = 2
     ? list USER
     = 2
@@ -107,6 +111,14 @@
     = 2
     ? NUMBER is 0 to 4294967295
     = 2
+    ? catalog USER NUMBER
+    = 2
+    ? catalog USER NUMBER
+    = 2
+    ? NUMBER is 0 to 4294967295
+    = 2
+    ? NUMBER is 0 to 4294967295
+    = 2
     ? export USER NUMBER ENCODING FILE
     = 2
     ? ENCODING is raw, base64, base64-mime, base32, base32hex, base16 or qp
@@ -119,9 +131,9 @@
     = 2
     ? migrate
     = 2
-    ? the commands are script, code, deliver, list, since, export, remove and migrate
+    ? the commands are script, code, deliver, list, since, catalog, export, remove and migrate
     = 2
-    ? the commands are script, code, deliver, list, since, export, remove and migrate
+    ? the commands are script, code, deliver, list, since, catalog, export, remove and migrate
     = 2
     ? words have one space between them, and others stand in quotes
     = 2
@@ -203,6 +215,40 @@
     4 message "INBOX" "" message/rfc822 2640
     = 0
 
+## catalogs between other commands
+    $ cat > lines <<'END'
+    > catalog ann 0
+    > script ann examples/documents.sieve
+    > deliver ann examples/invoice.eml
+    > catalog ann 0
+    > catalog "ann" +01
+    > catalog ann 4294967295
+    > catalog bob 0
+    > remove ann 1
+    > catalog ann 0
+    > catalog Ann 0
+    > END
+    $ depot batch mail.depot < lines
+    = 0
+    stored
+    = 0
+    1 part "Documents"
+    2 message "INBOX"
+    = 0
+    {"folder":"Documents","kind":"part","media":"application/pdf","name":"rechnung-2026-0417.pdf","number":1,"octets":9016,"of":[{"number":2,"part":4}],"sha256":"80f8df41adb207ae3eceb0df7cfcf10bdd1d48d1b19423f1f5a03d9b6f7db81e"}
+    {"fields":{"Date":"Mon, 16 Mar 2026 15:40:00 +0100","From":"=?UTF-8?Q?Papier_=26_S=C3=B6hne?= <rechnung@papier.example>","Message-ID":"<2026-0417@papier.example>","Subject":"=?UTF-8?Q?Rechnung_2026-0417?=","To":"\"Huber, Maria\" <huber@hollow.example>"},"folder":"INBOX","kind":"message","media":"message/rfc822","name":"","number":2,"octets":19165,"parts":5,"sha256":"7d7637424eb2617c2fc02cc19c711e6b478716fa422f86263f857a4e2a5bf794","stored":[{"number":1,"part":4}]}
+    = 0
+    {"fields":{"Date":"Mon, 16 Mar 2026 15:40:00 +0100","From":"=?UTF-8?Q?Papier_=26_S=C3=B6hne?= <rechnung@papier.example>","Message-ID":"<2026-0417@papier.example>","Subject":"=?UTF-8?Q?Rechnung_2026-0417?=","To":"\"Huber, Maria\" <huber@hollow.example>"},"folder":"INBOX","kind":"message","media":"message/rfc822","name":"","number":2,"octets":19165,"parts":5,"sha256":"7d7637424eb2617c2fc02cc19c711e6b478716fa422f86263f857a4e2a5bf794","stored":[{"number":1,"part":4}]}
+    = 0
+    = 0
+    = 0
+    removed 1
+    = 0
+    {"fields":{"Date":"Mon, 16 Mar 2026 15:40:00 +0100","From":"=?UTF-8?Q?Papier_=26_S=C3=B6hne?= <rechnung@papier.example>","Message-ID":"<2026-0417@papier.example>","Subject":"=?UTF-8?Q?Rechnung_2026-0417?=","To":"\"Huber, Maria\" <huber@hollow.example>"},"folder":"INBOX","kind":"message","media":"message/rfc822","name":"","number":2,"octets":19165,"parts":5,"sha256":"7d7637424eb2617c2fc02cc19c711e6b478716fa422f86263f857a4e2a5bf794","stored":[]}
+    = 0
+    refused 44 UserName
+    = 1
+
 ## a word in quotes
     $ cp examples/invoice.eml 'a mail "of" Jörg'
     $ printf 'deliver "ann" "a mail \\22of\\22 J\\c3\\b6rg"\n' | depot batch mail.depot
@@ -229,7 +275,7 @@
 
 ## a long line
     $ { head -c 67108864 /dev/zero | tr '\0' 'a'; printf '\nlist ann\n'; } | depot batch mail.depot
-    ? the commands are script, code, deliver, list, since, export, remove and migrate
+    ? the commands are script, code, deliver, list, since, catalog, export, remove and migrate
     = 2
     none
     = 0
@@ -457,7 +503,7 @@ Only if: python3 -c 'import sqlite3' # there is no sqlite3 for python3
     {"entries":[],"status":0}
     {"status":2,"wrong":"words have one space between them, and others stand in quotes"}
     {"status":2,"wrong":"NUMBER is 0 to 4294967295"}
-    {"status":2,"wrong":"the commands are script, code, deliver, list, since, export, remove and migrate"}
+    {"status":2,"wrong":"the commands are script, code, deliver, list, since, catalog, export, remove and migrate"}
     $ wc -c < attached
     18032
     $ printf 'json\nlist ann' | depot batch mail.depot
@@ -465,18 +511,45 @@ Only if: python3 -c 'import sqlite3' # there is no sqlite3 for python3
     $ printf 'json\n' | depot batch mail.depot
     $ rm script attached
 
+## catalogs in JSON have the lines as the items of a list
+    $ cat > lines <<'END'
+    > json
+    > catalog ann 0
+    > script ann examples/documents.sieve
+    > deliver ann examples/invoice.eml
+    > catalog ann 0
+    > catalog ann 1
+    > catalog ann 2
+    > catalog Ann 0
+    > catalog ann
+    > END
+    $ depot batch mail.depot < lines
+    {"catalog":[],"status":0}
+    {"status":0}
+    {"entries":[{"folder":"Documents","kind":"part","media":"application/pdf","name":"rechnung-2026-0417.pdf","number":1,"octets":9016},{"folder":"INBOX","kind":"message","media":"message/rfc822","name":"","number":2,"octets":19165}],"status":0}
+    {"catalog":[{"folder":"Documents","kind":"part","media":"application/pdf","name":"rechnung-2026-0417.pdf","number":1,"octets":9016,"of":[{"number":2,"part":4}],"sha256":"80f8df41adb207ae3eceb0df7cfcf10bdd1d48d1b19423f1f5a03d9b6f7db81e"},{"fields":{"Date":"Mon, 16 Mar 2026 15:40:00 +0100","From":"=?UTF-8?Q?Papier_=26_S=C3=B6hne?= <rechnung@papier.example>","Message-ID":"<2026-0417@papier.example>","Subject":"=?UTF-8?Q?Rechnung_2026-0417?=","To":"\"Huber, Maria\" <huber@hollow.example>"},"folder":"INBOX","kind":"message","media":"message/rfc822","name":"","number":2,"octets":19165,"parts":5,"sha256":"7d7637424eb2617c2fc02cc19c711e6b478716fa422f86263f857a4e2a5bf794","stored":[{"number":1,"part":4}]}],"status":0}
+    {"catalog":[{"fields":{"Date":"Mon, 16 Mar 2026 15:40:00 +0100","From":"=?UTF-8?Q?Papier_=26_S=C3=B6hne?= <rechnung@papier.example>","Message-ID":"<2026-0417@papier.example>","Subject":"=?UTF-8?Q?Rechnung_2026-0417?=","To":"\"Huber, Maria\" <huber@hollow.example>"},"folder":"INBOX","kind":"message","media":"message/rfc822","name":"","number":2,"octets":19165,"parts":5,"sha256":"7d7637424eb2617c2fc02cc19c711e6b478716fa422f86263f857a4e2a5bf794","stored":[{"number":1,"part":4}]}],"status":0}
+    {"catalog":[],"status":0}
+    {"name":"UserName","refused":44,"status":1}
+    {"status":2,"wrong":"catalog USER NUMBER"}
+    $ depot batch mail.depot < lines | python3 -c 'import json, sys; print([len(json.loads(line).get("catalog", ())) for line in sys.stdin])'
+    [2, 0, 0, 4, 3, 2, 0, 0]
+    $ depot catalog mail.depot ann > all; printf 'json\ncatalog ann 0\n' | depot batch mail.depot | python3 -c 'import json, sys; print(json.loads(sys.stdin.readline())["catalog"] == [json.loads(line) for line in open("all")])'
+    True
+    $ rm all
+
 ## the line that asks for JSON is the first one, and nothing else
     $ printf 'list ann\njson\n' | depot batch mail.depot
     none
     = 0
-    ? the commands are script, code, deliver, list, since, export, remove and migrate
+    ? the commands are script, code, deliver, list, since, catalog, export, remove and migrate
     = 2
     $ for line in 'json ' ' json' '"json"' JSON 'json ann' jso jsonl; do printf '%s\n' "$line" | depot batch mail.depot; done | sort | uniq -c | tr -s ' '
      7 = 2
-     5 ? the commands are script, code, deliver, list, since, export, remove and migrate
+     5 ? the commands are script, code, deliver, list, since, catalog, export, remove and migrate
      2 ? words have one space between them, and others stand in quotes
     $ printf 'json\r\nlist ann\n' | depot batch mail.depot
-    ? the commands are script, code, deliver, list, since, export, remove and migrate
+    ? the commands are script, code, deliver, list, since, catalog, export, remove and migrate
     = 2
     none
     = 0

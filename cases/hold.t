@@ -16,10 +16,10 @@ Only if: command -v flock && [ -d /proc/self ] # there is no flock or no /proc
     2> refused 40 NoSuchEntry
     [1]
     $ "$TOP/contrib/ask" mail.depot check ann
-    2> ask: ? the commands are script, code, deliver, list, since, export, remove and migrate
+    2> ask: ? the commands are script, code, deliver, list, since, catalog, export, remove and migrate
     [64]
     $ "$TOP/contrib/ask" mail.depot json
-    2> ask: ? the commands are script, code, deliver, list, since, export, remove and migrate
+    2> ask: ? the commands are script, code, deliver, list, since, catalog, export, remove and migrate
     [64]
     $ printf 'json\nlist ann\n' | "$TOP/contrib/ask" mail.depot -
     {"entries":[],"status":0}

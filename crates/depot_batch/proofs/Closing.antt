@@ -20,7 +20,7 @@ one_line_both (x ∷ xs) b first second =
     let here : not (x == 10) ≡ true = (both (not (x == 10)) (is_one_line xs) first).0 in
     rw here (one_line_both xs b (both (not (x == 10)) (is_one_line xs) first).1 second)
 
-other : (x y : ℕ) → (x ≡ y → ⊥) → not (x == y) ≡ true
+pub other : (x y : ℕ) → (x ≡ y → ⊥) → not (x == y) ≡ true
 other x y differ = rw (ne_eqb x y differ) refl
 
 -- a digit is no line break, and no sign of equality

@@ -1,17 +1,27 @@
 -- No line of an answer begins with `= `.
-use Rattle.std.proofs.Common.{◌≡◌, ◌∙◌, refl, sym, ap, cond, codes, Bool, true, false, ◌++◌, ℕ, List, [], ◌∷◌, map, Option, Some, None, true≢false}
-use Rattle.std.specs.Prelude.{filter}
+use Rattle.std.proofs.Common.{◌≡◌, ◌∙◌, refl, sym, ap, append_assoc, arith, cond, codes, Bool, true, false, ◌++◌, ℕ, List, [], ◌∷◌, map, Option, Some, None, true≢false}
+use Rattle.std.specs.Prelude.{filter, flat_map, nat_lt}
 use Rattle.std.specs.Borrow.{Bor}
 use Rattle.std.specs.List.{list_all}
 use Rattle.std.specs.Fmt.{decimal}
 use Rattle.sqlite_trees.specs.declared.store.Store.{Ghosts}
 use Rattle.sqlite.specs.Held.{Held, state}
 use Rattle.sqlite.specs.State.{HasCleanDisk, State}
+use Rattle.serde_json.specs.Data.{Members, object}
+use Rattle.serde_json.specs.Written.{compact_text}
+use Rattle.mime_decode.specs.Mail.{mail_of}
+use Rattle.catalog.specs.Catalog.{Filed, catalog, line_among, messages_of, parts_of, piece_of, row_of_filed}
+use Rattle.catalog.specs.Lines.{message_line, part_line}
+use Rattle.catalog.specs.Rows.{Row}
+use Rattle.catalog.specs.Stored.{digests_of, messages_with, stored_in}
+use Rattle.catalog.specs.declared.entry.Place.{Place}
+use Rattle.catalog.proofs.Plain.{IsVisible}
+use Rattle.catalog.proofs.PlainLines.{message_plain, part_plain}
 use Rattle.part_store.specs.Entries.{Entries, Entry, Listing, entries_of, entries_since, listing_of}
 use Rattle.part_store.specs.Standing.{Stands}
 use Rattle.part_store.specs.declared.entry.Kind.{Kind}
 use Rattle.part_store.specs.declared.entry.Kind.TheVariants.{Message, Part}
-use Rattle.depot_actions.specs.DepotState.{Reply as DepotReply}
+use Rattle.depot_actions.specs.DepotState.{Reply as DepotReply, filed_of}
 use Rattle.depot_actions.specs.DepotState as depot
 use Rattle.depot_actions.specs.PlainMedia.{HavePlainMedia, is_one_line}
 use Rattle.refusals.specs.Lines.{name_of, number_of, place_of, place_text, refusal_text}
@@ -38,7 +48,7 @@ use Rattle.depot_batch.specs.declared.asked.LineFault.{LineFault}
 use Rattle.depot_batch.specs.declared.asked.LineFault.TheVariants as faults
 use Rattle.depot_batch.specs.declared.outcome.Outcome.{Outcome}
 use Rattle.depot_batch.specs.declared.outcome.Outcome.TheVariants.{Done, Refused, Wrong}
-use Rattle.depot_batch.proofs.Closing.{begins_otherwise, both, decimal_begins, decimal_one_line, line_alone, lines_pass, one_line_both, quoted_one_line}
+use Rattle.depot_batch.proofs.Closing.{begins_otherwise, both, decimal_begins, decimal_one_line, line_alone, line_passes, lines_pass, one_line_both, other, quoted_one_line}
 
 -- a text of one line, which begins otherwise
 abbrev Safe : List ℕ → Type 0
@@ -144,6 +154,49 @@ listed_since user number reply old new before done clean stands plain =
     ap (λ r. has_closing true (reply_text (depot.ListSince user number) r)) is
     ∙ full_closes_none _ (plain_listed (entries_since user number before) (plain_some _ (entries_of user before) (plain_some _ before.entries plain)))
 
+-- the lines of a catalog
+one_line : (text : List ℕ) → IsVisible text → is_one_line text ≡ true
+one_line [] visible = refl
+one_line (x ∷ xs) visible = rw (other x 10 (λ e. omega (arith, e, visible.0))) (one_line xs visible.1)
+
+object_passes : (members : Members) (more : List ℕ) → IsVisible (compact_text (object members))
+    → has_closing true ((compact_text (object members) ++ 10 ∷ []) ++ more) ≡ has_closing true more
+object_passes members more visible =
+    let text = compact_text (object members) in
+    ap (has_closing true) (append_assoc text (10 ∷ []) more) ∙ line_passes text more refl (one_line text visible)
+
+entry_passes : (all : List Filed) (x : Filed) (more : List ℕ) → has_closing true (line_among all x ++ more) ≡ has_closing true more
+entry_passes all x more = go x.is_message
+  where
+    row : Row
+    row = row_of_filed x
+
+    stored : List Place
+    stored = stored_in (digests_of (mail_of x.octets)) (parts_of all)
+
+    messages : List Place
+    messages = messages_with row.digest (messages_of all)
+
+    go : (b : Bool) → has_closing true ((cond b (message_line row (mail_of x.octets) stored) (part_line row messages) ++ 10 ∷ []) ++ more) ≡ has_closing true more
+    go true = object_passes _ more (message_plain row (mail_of x.octets) stored).visible
+    go false = object_passes _ more (part_plain row messages).visible
+
+catalog_closes_none : (after : ℕ) (all some : List Filed) → has_closing true (flat_map (piece_of after all) some) ≡ false
+catalog_closes_none after all [] = refl
+catalog_closes_none after all (x ∷ xs) = go (nat_lt after x.number)
+  where
+    go : (b : Bool) → has_closing true (cond b (line_among all x) [] ++ flat_map (piece_of after all) xs) ≡ false
+    go true = entry_passes all x (flat_map (piece_of after all) xs) ∙ catalog_closes_none after all xs
+    go false = catalog_closes_none after all xs
+
+catalogued : (user : List ℕ) (number : ℕ) (reply : DepotReply) (old new : State) (before : Entries) → HasDone (depot.Catalog user number) reply old new → HasCleanDisk new
+    → Stands old.now before → has_closing true (reply_text (depot.Catalog user number) reply) ≡ false
+catalogued user number reply old new before done clean stands =
+    let accepted = (done clean).1 before stands in
+    let all = map filed_of (entries_of user before) in
+    let is : reply ≡ depot.Text (catalog number all) = accepted.1.step.0 in
+    ap (λ r. has_closing true (reply_text (depot.Catalog user number) r)) is ∙ catalog_closes_none number all all
+
 replied : (command : WithReply (Bor Text)) (octets : List ℕ) (reply : DepotReply) (old new : State) (before : Entries)
     → HasDone (request_command (on_depot command) octets) reply old new → HasCleanDisk new → Stands old.now before → HavePlainMedia before
     → has_closing true (reply_text (request_command (on_depot command) octets) reply) ≡ false
@@ -152,6 +205,7 @@ replied (FromFile deposits.Code user file) octets reply old new before done clea
 replied (FromFile deposits.Message user file) octets reply old new before done clean stands plain = delivered reply user.now octets
 replied (OnUser accesses.List user) octets reply old new before done clean stands plain = listed user.now reply old new before done clean stands plain
 replied (OnUser (accesses.Since number) user) octets reply old new before done clean stands plain = listed_since user.now number reply old new before done clean stands plain
+replied (OnUser (accesses.Catalog number) user) octets reply old new before done clean stands plain = catalogued user.now number reply old new before done clean stands
 replied (OnUser (accesses.Remove number) user) octets reply old new before done clean stands plain = numbered_safe (codes "removed ") number (refl, refl)
 replied Migrate octets reply old new before done clean stands plain = migrated reply
 

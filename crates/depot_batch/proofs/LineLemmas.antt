@@ -9,11 +9,11 @@ use Rattle.devices.specs.Device.{HasBroken, HasPut, HasTaken, Output}
 use Rattle.devices.proofs.Outputs.{broken_later}
 use Rattle.depot_actions.specs.Applying.{MayAdd}
 use Rattle.depot_jobs.specs.Host.{HostState}
-use Rattle.depot_batch.specs.Answers.{AreNoTexts, HasComeOf, HasPutReport, IsReportOn, IsUnasked, Says, outcome_of, report_members, text_as, unasked_report}
+use Rattle.depot_batch.specs.Answers.{AreNoTexts, HasComeOf, HasPutReport, IsReportOn, IsUnasked, Says, outcome_of, report_told, text_as, unasked_report}
 use Rattle.depot_batch.specs.Asked.{AskNothing}
 use Rattle.depot_batch.specs.Batch.{Did, Happens}
 use Rattle.depot_batch.specs.Effects.{Effect, HasCome, HasWords, HasWritten, IsAsked, IsWrong, MayMake, depot_and_output}
-use Rattle.depot_batch.specs.Said.{InFull, InLines, InShort, OfFault, OfRefusal, Said, Suits, Wording, answer_in, closing, lines_in, outcome_in, short_value, value_line, with_status}
+use Rattle.depot_batch.specs.Said.{InFull, InLines, InShort, OfFault, OfRefusal, Said, Suits, Wording, answer_in, closing, lines_in, outcome_in, short_value, told_line, value_line}
 use Rattle.depot_batch.specs.Turns.{Alone, Broken, Whole, Writing}
 use Rattle.depot_batch.specs.declared.format.Format.{Format}
 use Rattle.depot_batch.specs.declared.asked.Asked.{Asked}
@@ -85,7 +85,7 @@ come_of : (Had : Effect → Type 0) (name octets : List ℕ) (asked : Asked) (re
 come_of Had name octets asked (Done answer) host host2 is come = record { said = come.0; says = come.1; come = (asked, is, come.2) }
 come_of Had name octets asked (Refused refusal) host host2 is come = record {
   said = OfRefusal refusal;
-  says = record { outcome = refl; lines = refl; members = refl };
+  says = record { outcome = refl; lines = refl; told = refl };
   come = (refl, inr (asked, is, come));
 }
 come_of Had name octets asked (Wrong fault) host host2 is come = absurd come
@@ -94,7 +94,7 @@ come_of Had name octets asked (Wrong fault) host host2 is come = absurd come
 same_text : (wording : Wording) (report : Report) (said : Said) → Says report said → text_as wording report ≡ answer_in wording said
 same_text InLines report said says = ap (λ text. text ++ closing (outcome_of report)) says.lines ∙ ap (λ outcome. lines_in said ++ closing outcome) says.outcome
 same_text InFull report said says =
-    ap (λ outcome. value_line (with_status outcome (report_members report))) says.outcome ∙ ap (λ members. value_line (with_status (outcome_in said) members)) says.members
+    ap (λ outcome. told_line outcome (report_told report)) says.outcome ∙ ap (told_line (outcome_in said)) says.told
 same_text InShort report said says = ap (λ outcome. value_line (short_value outcome)) says.outcome
 
 module _ {S : Type 0} (g : Ghosts S) (name octets : List ℕ) where
@@ -114,13 +114,13 @@ module _ {S : Type 0} (g : Ghosts S) (name octets : List ℕ) where
   pub unasked_reported : (why : Unasked) (old : Held S) (host : HostState) → IsUnasked octets why → IsReportOn g name octets (unasked_report why) old old host host
   unasked_reported (unasked.Wrong fault) old host wrong = record {
     said = OfFault fault;
-    says = record { outcome = refl; lines = refl; members = refl };
+    says = record { outcome = refl; lines = refl; told = refl };
     come = (fault, wrong, refl, (refl, refl));
     outlasts = still (state g old);
   }
   unasked_reported unasked.NoMemory old host wrong = record {
     said = OfRefusal Memory;
-    says = record { outcome = refl; lines = refl; members = refl };
+    says = record { outcome = refl; lines = refl; told = refl };
     come = (refl, inl (refl, (refl, refl)));
     outlasts = still (state g old);
   }

@@ -9,7 +9,8 @@ use Rattle.devices.specs.Device.{HasPut, Output}
 use Rattle.part_store.specs.Entries.{Listing}
 use Rattle.part_store.specs.Standing.{listed}
 use Rattle.printing.specs.Printed.{refusal_line}
-use Rattle.serde_json.specs.Data.{Data, Members, member, no_members}
+use Rattle.serde_json.specs.Data.{member, no_members}
+use Rattle.serde_json.specs.View.{members_view}
 use Rattle.depot_jobs.specs.Host.{HostState}
 use Rattle.depot_cli.specs.Printed.{text_in as reply_text}
 use Rattle.depot_cli.specs.declared.task.Reply.{Reply}
@@ -18,7 +19,7 @@ use Rattle.refusals.specs.declared.refusal.Refusal.TheVariants.{Memory}
 use Rattle.depot_batch.specs.Asked.{wrong_line}
 use Rattle.depot_batch.specs.Batch.{Did, MayLeaveIn}
 use Rattle.depot_batch.specs.Effects.{Effect, HasCome, IsDone, IsRefused, IsWrong}
-use Rattle.depot_batch.specs.Said.{InFull, InLines, InShort, Said, Suits, Wording, closing, entries_members, exported_members, exported_text, fault_members, filed_in, lines_in, members_in as members_said, number_value, outcome_in, refusal_members, short_value, value_line, with_status}
+use Rattle.depot_batch.specs.Said.{InFull, InLines, InShort, OfLines, OfMembers, Said, Suits, Told, Wording, closing, entries_members, exported_members, exported_text, fault_members, filed_in, lines_in, number_value, outcome_in, refusal_members, short_value, told_in, told_line, value_line}
 use Rattle.depot_batch.specs.Turns.{Alone}
 use Rattle.depot_batch.specs.Words.{words_of}
 use Rattle.depot_batch.specs.declared.answering.Answer.{Answer}
@@ -32,6 +33,8 @@ use Rattle.depot_batch.specs.declared.outcome.Outcome.{Outcome}
 use Rattle.depot_batch.specs.declared.outcome.Outcome.TheVariants as outcomes
 use Rattle.depot_batch.specs.declared.report.Report.{Report}
 use Rattle.depot_batch.specs.declared.report.Report.TheVariants as reports
+use Rattle.depot_batch.specs.declared.values.Told.{Told as Made}
+use Rattle.depot_batch.specs.declared.values.Told.TheVariants as made
 
 -- ---- what a line is answered with
 
@@ -56,33 +59,35 @@ outcome_of (reports.Wrong fault) = outcomes.Wrong
 abbrev pub answer_text : Report → List ℕ
 answer_text report = report_text report ++ closing (outcome_of report)
 
--- what an object has for a reply beside the status
-abbrev pub reply_members_in : Reply → Members
-reply_members_in replies.Stored = no_members
-reply_members_in (replies.Filed rows) = entries_members (map listed rows.items)
-reply_members_in (replies.Listed rows) = entries_members (map listed rows.items)
-reply_members_in (replies.Removed number) = member (codes "removed") (number_value number) no_members
-reply_members_in (replies.Migrated count) = member (codes "migrated") (number_value count) no_members
+-- what is told of a reply in JSON beside the status
+abbrev pub reply_told : Reply → Told
+reply_told replies.Stored = OfMembers no_members
+reply_told (replies.Filed rows) = OfMembers (entries_members (map listed rows.items))
+reply_told (replies.Listed rows) = OfMembers (entries_members (map listed rows.items))
+reply_told (replies.Catalog lines) = OfLines lines.items
+reply_told (replies.Removed number) = OfMembers (member (codes "removed") (number_value number) no_members)
+reply_told (replies.Migrated count) = OfMembers (member (codes "migrated") (number_value count) no_members)
 
--- for an answer
-abbrev pub members_in : Answer → Members
-members_in (Replied reply) = reply_members_in reply
-members_in (Exported number) = exported_members number
+-- of an answer
+abbrev pub answer_told : Answer → Told
+answer_told (Replied reply) = reply_told reply
+answer_told (Exported number) = OfMembers (exported_members number)
 
--- for a report
-abbrev pub report_members : Report → Members
-report_members (reports.Done answer) = members_in answer
-report_members (reports.Refused refusal) = refusal_members refusal
-report_members (reports.Wrong fault) = fault_members fault
+-- of a report
+abbrev pub report_told : Report → Told
+report_told (reports.Done answer) = answer_told answer
+report_told (reports.Refused refusal) = OfMembers (refusal_members refusal)
+report_told (reports.Wrong fault) = OfMembers (fault_members fault)
 
--- the object
-abbrev pub report_value : Report → Data
-report_value report = with_status (outcome_of report) (report_members report)
+-- what the code makes of it
+abbrev pub told_by : Made → Told
+told_by (made.Members members) = OfMembers (members_view members.entries)
+told_by (made.Lines lines) = OfLines lines.now
 
 -- a report, as it is written
 abbrev pub text_as : Wording → Report → List ℕ
 text_as InLines report = answer_text report
-text_as InFull report = value_line (report_value report)
+text_as InFull report = told_line (outcome_of report) (report_told report)
 text_as InShort report = value_line (short_value (outcome_of report))
 
 -- a report was written in this format, or broke off
@@ -101,7 +106,7 @@ pub record HasPutFiled {A E : Type 0} (result : Result A E) (format : Format) (f
 pub record Says (report : Report) (said : Said) : Type 0 where
   pub outcome : outcome_of report ≡ outcome_in said
   pub lines : report_text report ≡ lines_in said
-  pub members : report_members report ≡ members_said said
+  pub told : report_told report ≡ told_in said
 
 -- ---- lines
 

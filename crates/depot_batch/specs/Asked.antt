@@ -31,6 +31,8 @@ Asks words (Reply (replied.FromFile deposit user file)) = words ≡ word_of depo
 Asks words (Reply (replied.OnUser accesses.List user)) = words ≡ codes "list" ∷ user.now ∷ []
 Asks words (Reply (replied.OnUser (accesses.Since number) user)) =
     (digits : Text) × (words ≡ codes "since" ∷ user.now ∷ digits ∷ []) × IsNumberFrom 0 digits number
+Asks words (Reply (replied.OnUser (accesses.Catalog number) user)) =
+    (digits : Text) × (words ≡ codes "catalog" ∷ user.now ∷ digits ∷ []) × IsNumberFrom 0 digits number
 Asks words (Reply (replied.OnUser (accesses.Remove number) user)) =
     (digits : Text) × (words ≡ codes "remove" ∷ user.now ∷ digits ∷ []) × IsNumberFrom 1 digits number
 Asks words (Reply replied.Migrate) = words ≡ codes "migrate" ∷ []
@@ -44,6 +46,7 @@ abbrev pub name_of : Form → Text
 name_of (forms.FromFile deposit) = word_of deposit
 name_of forms.List = codes "list"
 name_of forms.Since = codes "since"
+name_of forms.Catalog = codes "catalog"
 name_of forms.Export = codes "export"
 name_of forms.Remove = codes "remove"
 name_of forms.Migrate = codes "migrate"
@@ -52,6 +55,7 @@ abbrev pub words_after : Form → ℕ
 words_after (forms.FromFile deposit) = 2
 words_after forms.List = 1
 words_after forms.Since = 2
+words_after forms.Catalog = 2
 words_after forms.Export = 4
 words_after forms.Remove = 2
 words_after forms.Migrate = 0
@@ -62,6 +66,7 @@ usage_of (forms.FromFile Code) = codes "code USER PROGRAM"
 usage_of (forms.FromFile Message) = codes "deliver USER MESSAGE"
 usage_of forms.List = codes "list USER"
 usage_of forms.Since = codes "since USER NUMBER"
+usage_of forms.Catalog = codes "catalog USER NUMBER"
 usage_of forms.Export = codes "export USER NUMBER ENCODING FILE"
 usage_of forms.Remove = codes "remove USER NUMBER"
 usage_of forms.Migrate = codes "migrate"
@@ -69,6 +74,7 @@ usage_of forms.Migrate = codes "migrate"
 -- the least number that its second word may be
 abbrev pub least_number : Form → ℕ
 least_number forms.Since = 0
+least_number forms.Catalog = 0
 least_number form = 1
 
 -- ---- what is no command
@@ -92,9 +98,10 @@ abbrev pub sentence_of : LineFault → Text
 sentence_of faults.Unfinished = codes "the input ended within this line"
 sentence_of faults.Words = codes "words have one space between them, and others stand in quotes"
 sentence_of faults.NotText = codes "a word isn't UTF-8"
-sentence_of faults.NoCommand = codes "the commands are script, code, deliver, list, since, export, remove and migrate"
+sentence_of faults.NoCommand = codes "the commands are script, code, deliver, list, since, catalog, export, remove and migrate"
 sentence_of (faults.Form form) = usage_of form
 sentence_of (faults.Number forms.Since) = codes "NUMBER is 0 to 4294967295"
+sentence_of (faults.Number forms.Catalog) = codes "NUMBER is 0 to 4294967295"
 sentence_of (faults.Number form) = codes "NUMBER is 1 to 4294967295"
 sentence_of faults.Encoding = codes "ENCODING is raw, base64, base64-mime, base32, base32hex, base16 or qp"
 

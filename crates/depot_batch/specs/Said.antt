@@ -1,13 +1,13 @@
 -- What lines are answered with, and its text: as lines, or as an object in JSON (RFC 8259) without blanks between its tokens,
 -- whose members are in the order of their names.
-use Rattle.std.specs.Prelude.{ℕ, List, ◌++◌, codes, map, None, Option, Some, true}
+use Rattle.std.specs.Prelude.{ℕ, ◌-◌, ◌==◌, List, [], ◌++◌, codes, if◌then◌else◌, length, map, None, Option, Some, take, true}
 use Rattle.std.specs.Fmt.{decimal}
 use Rattle.serde_json.specs.Data.{Data, boolean, number as number_of_value, unsigned, string, array, object, Members, member, no_members, put}
 use Rattle.serde_json.specs.View.{items_of}
 use Rattle.serde_json.specs.Written.{compact_text}
 use Rattle.catalog.specs.Texts.{text_value}
 use Rattle.part_store.specs.Entries.{Listing}
-use Rattle.depot_actions.specs.DepotState.{Command, Reply as DepotReply, Deliver, ListAll, ListSince, Listed, Migrate, Migrated, Remove}
+use Rattle.depot_actions.specs.DepotState.{Catalog, Command, Reply as DepotReply, Deliver, ListAll, ListSince, Listed, Migrate, Migrated, Remove, Text}
 use Rattle.refusals.specs.Lines.{name_of, number_of, place_of}
 use Rattle.refusals.specs.declared.refusal.Refusal.{Refusal}
 use Rattle.printing.specs.Printed.{line, refusal_line}
@@ -115,19 +115,29 @@ refusal_members refusal =
 abbrev pub fault_members : LineFault → Members
 fault_members fault = member (codes "wrong") (string (sentence_of fault)) no_members
 
--- what an answer has beside the status
-abbrev pub members_in : Said → Members
-members_in (OfReply command reply) = reply_members command reply
-members_in (OfExport number) = exported_members number
-members_in (OfRefusal refusal) = refusal_members refusal
-members_in (OfFault fault) = fault_members fault
+-- the lines of a catalog; no depot gives other replies where one is asked for
+abbrev pub catalog_lines : DepotReply → List ℕ
+catalog_lines (Text lines) = lines
+catalog_lines reply = []
+
+-- What an answer tells beside the status: members of its object, or the lines of a catalog, each of which is an object.
+pub data Told : Type 0 where
+  OfMembers : Members → Told
+  OfLines : List ℕ → Told
+
+abbrev pub reply_told : Command → DepotReply → Told
+reply_told (Catalog user number) reply = OfLines (catalog_lines reply)
+reply_told command reply = OfMembers (reply_members command reply)
+
+abbrev pub told_in : Said → Told
+told_in (OfReply command reply) = reply_told command reply
+told_in (OfExport number) = OfMembers (exported_members number)
+told_in (OfRefusal refusal) = OfMembers (refusal_members refusal)
+told_in (OfFault fault) = OfMembers (fault_members fault)
 
 -- an answer with these members
 abbrev pub with_status : Outcome → Members → Data
 with_status outcome members = object (put (codes "status") (number_value (status_of outcome)) members)
-
-abbrev pub value_in : Said → Data
-value_in said = with_status (outcome_in said) (members_in said)
 
 -- What stands for an answer if memory is refused for it. The command was done before its answer is made, so no answer can
 -- say that it was refused for lack of memory: the status is that of the line, and a member says that the others are missing.
@@ -138,6 +148,22 @@ short_value outcome =
 -- a value on a line
 abbrev pub value_line : Data → List ℕ
 value_line value = line (compact_text value)
+
+-- lines as the items of a list: with a comma (44) instead of each line break (10) but the last, which is left out
+abbrev pub comma_for : ℕ → ℕ
+comma_for octet = if octet == 10 then 44 else octet
+
+abbrev pub as_items : List ℕ → List ℕ
+as_items lines = map comma_for (take (length lines - 1) lines)
+
+-- a catalog on a line
+abbrev pub catalog_line : List ℕ → List ℕ
+catalog_line lines = line (codes "{\"catalog\":[" ++ as_items lines ++ codes "],\"status\":0}")
+
+-- what an answer tells, on a line
+abbrev pub told_line : Outcome → Told → List ℕ
+told_line outcome (OfMembers members) = value_line (with_status outcome members)
+told_line outcome (OfLines lines) = catalog_line lines
 
 -- ---- in a format
 
@@ -158,7 +184,7 @@ Suits format wording = ⊥
 -- an answer
 abbrev pub answer_in : Wording → Said → List ℕ
 answer_in InLines said = lines_in said ++ closing (outcome_in said)
-answer_in InFull said = value_line (value_in said)
+answer_in InFull said = told_line (outcome_in said) (told_in said)
 answer_in InShort said = value_line (short_value (outcome_in said))
 
 -- the answer to a delivery that filed these entries

@@ -36,7 +36,7 @@ pub struct Export<'a> {
 
 /// The commands that a line can have, each with a fixed number of words. [`LineFault::Form`] names the one whose words
 /// were too many or too few, so that the answer can show how the command is written; [`LineFault::Number`] the one whose
-/// number isn't one, because the numbers of `since` begin with 0.
+/// number isn't one, because the numbers of `since` and `catalog` begin with 0.
 #[derive(Clone, Copy)]
 pub enum Form {
     /// `script USER SCRIPT`, `code USER PROGRAM` or `deliver USER MESSAGE`
@@ -45,6 +45,8 @@ pub enum Form {
     List,
     /// `since USER NUMBER`
     Since,
+    /// `catalog USER NUMBER`
+    Catalog,
     /// `export USER NUMBER ENCODING FILE`
     Export,
     /// `remove USER NUMBER`
@@ -116,6 +118,7 @@ fn form_of(name: &str) -> Option<Form>
         "deliver" => Some(Form::FromFile(Deposit::Message)),
         "list" => Some(Form::List),
         "since" => Some(Form::Since),
+        "catalog" => Some(Form::Catalog),
         "export" => Some(Form::Export),
         "remove" => Some(Form::Remove),
         "migrate" => Some(Form::Migrate),
@@ -135,6 +138,10 @@ fn asked_in<'a>(form: Form, rest: &[&'a str]) -> Result<Asked<'a>, LineFault>
         (Form::List, [user]) => Ok(Asked::Reply(WithReply::OnUser(Access::List, user))),
         (Form::Since, [user, digits]) => match number_of(form, digits) {
             Some(number) => Ok(Asked::Reply(WithReply::OnUser(Access::Since { number }, user))),
+            None => Err(LineFault::Number(form)),
+        },
+        (Form::Catalog, [user, digits]) => match number_of(form, digits) {
+            Some(number) => Ok(Asked::Reply(WithReply::OnUser(Access::Catalog { number }, user))),
             None => Err(LineFault::Number(form)),
         },
         (Form::Export, [user, digits, name, file]) => {
@@ -181,6 +188,7 @@ impl Form {
             Form::FromFile(Deposit::Message) => "deliver USER MESSAGE",
             Form::List => "list USER",
             Form::Since => "since USER NUMBER",
+            Form::Catalog => "catalog USER NUMBER",
             Form::Export => "export USER NUMBER ENCODING FILE",
             Form::Remove => "remove USER NUMBER",
             Form::Migrate => "migrate",
@@ -193,6 +201,7 @@ impl Form {
     {
         match self {
             Form::Since => "NUMBER is 0 to 4294967295",
+            Form::Catalog => "NUMBER is 0 to 4294967295",
             _ => "NUMBER is 1 to 4294967295",
         }
     }
@@ -203,6 +212,7 @@ impl Form {
     {
         match self {
             Form::Since => 0,
+            Form::Catalog => 0,
             _ => 1,
         }
     }
@@ -218,7 +228,7 @@ impl LineFault {
             LineFault::Words => "words have one space between them, and others stand in quotes",
             LineFault::NotText => "a word isn't UTF-8",
             LineFault::NoCommand => {
-                "the commands are script, code, deliver, list, since, export, remove and migrate"
+                "the commands are script, code, deliver, list, since, catalog, export, remove and migrate"
             }
             LineFault::Form(form) => form.usage(),
             LineFault::Number(form) => form.numbers(),

@@ -27,8 +27,9 @@
 //! If the input begins with the line `json`, the turns of the batch begin after it, and each answer is one JSON object on
 //! one line, without another line break (`json_answers_are_lines`); otherwise each answer is plain. What happens doesn't
 //! depend on that, only the text of the answers. An object has exactly the members of its definition: the status, and
-//! what the plain answer tells, for an entry also its name, media type and size after a delivery. Bytes that aren't UTF-8
-//! are told in base64, so a reader finds the same bytes.
+//! what the plain answer tells, for an entry also its name, media type and size after a delivery; the lines of a catalog
+//! are the items of its list, with commas instead of line breaks. Bytes that aren't UTF-8 are told in base64, so a reader
+//! finds the same bytes.
 //!
 //! An object is made after the command of its line is done. If memory is refused for it, the answer has only the status of
 //! the line, and a member that says so: a command that was done is never reported as refused, and no line is left without

@@ -1,19 +1,19 @@
 // Answers in JSON.
 //
-// An object is made with the kit's values, whole, before any of it is written, and that takes memory. The command of the
-// line is done then. So if memory is refused, the answer can't be that of a refusal for lack of memory: `short_line` has
+// An object is made with the kit's values, whole, before any of it is written, and that takes memory; that of a catalog is
+// made of its lines. The command of the line is done then. So if memory is refused, the answer can't be that of a refusal for lack of memory: `short_line` has
 // its status, and takes none.
-ghost use Rattle.std.specs.Prelude.{◌≡◌, IfOk, OnOk, codes, false, map};
+ghost use Rattle.std.specs.Prelude.{◌≡◌, ◌++◌, IfOk, OnOk, codes, false, map};
 ghost use Rattle.std.specs.List.{flat_map};
 ghost use Rattle.part_store.specs.Standing.{listed};
 ghost use Rattle.printing.specs.Printed.{line as line_of};
 ghost use Rattle.serde_json.specs.Data.{array, member, no_members, object, put as with_member};
 ghost use Rattle.serde_json.specs.View.{items_of, members_view, view};
 ghost use Rattle.serde_json.specs.Written.{has_float};
-ghost use Rattle.depot_batch.specs.Answers.{members_in, outcome_of, reply_members_in, report_value};
+ghost use Rattle.depot_batch.specs.Answers.{answer_told, outcome_of, reply_told, report_told, told_by};
 ghost use Rattle.depot_batch.specs.Private.{filed_by};
 ghost use Rattle.depot_batch.specs.declared.outcome.Outcome.TheVariants.{Done};
-ghost use Rattle.depot_batch.specs.Said.{InFull, entries_members, entry_value, fault_members, filed_in, number_value, refusal_members, short_value, value_line, with_place};
+ghost use Rattle.depot_batch.specs.Said.{InFull, as_items, catalog_line, comma_for, entries_members, entry_value, fault_members, filed_in, number_value, refusal_members, short_value, status_of, told_line, value_line, with_place};
 
 use crate::answering::Answer;
 use crate::asked::LineFault;
@@ -25,16 +25,31 @@ use refusals::Refusal;
 use serde_json::{Map, Value, put};
 use std::alloc::{AllocError, Global};
 
+/// What an answer in JSON tells beside the status.
+#[derive(Drop)]
+pub enum Told<'a> {
+    /// The members of its object.
+    Members(Map<String, Value>),
+    /// The lines of a catalog, which are the items of its list.
+    Lines(&'a [u8]),
+}
+
 /// Returns the line of a report in JSON.
 ///
 /// # Errors
 ///
 /// `AllocError` if memory is refused.
 pub fn report_line(alloc: Global, report: &Report) -> Result<Vec<u8>, AllocError>
-    ensures { IfOk result (λ line. line.items ≡ value_line (report_value report.now)) }
+    ensures { IfOk result (λ line. line.items
+        ≡ told_line (outcome_of report.now) (report_told report.now)) }
 {
-    let value = report_value(alloc, report)?;
-    text_line(alloc, &value)
+    match report_told(alloc, report)? {
+        Told::Members(members) => {
+            let value = with_status(alloc, members, status_of(report))?;
+            text_line(alloc, &value)
+        }
+        Told::Lines(lines) => catalog_line(alloc, lines),
+    }
 }
 
 /// Returns the lines of the answers to deliveries in JSON.
@@ -90,23 +105,54 @@ fn text_line(alloc: Global, value: &Value) -> Result<Vec<u8>, AllocError>
     Ok(line)
 }
 
-// The object of a report.
-fn report_value(alloc: Global, report: &Report) -> Result<Value, AllocError>
-    ensures { IfOk result (λ value. view value ≡ report_value report.now) }
+// The line of a catalog.
+fn catalog_line(alloc: Global, lines: &[u8]) -> Result<Vec<u8>, AllocError>
+    ensures { IfOk result (λ line. line.items ≡ catalog_line lines.now) }
+{
+    let mut line = Vec::from_slice(alloc, b"{\"catalog\":[")?;
+    put_items(&mut line, lines)?;
+    line.extend_from_slice(b"],\"status\":0}")?;
+    line.push(b'\n')?;
+    Ok(line)
+}
+
+// Appends lines as the items of a list.
+fn put_items(out: &mut Vec<u8>, lines: &[u8]) -> Result<(), AllocError>
+    ensures { OnOk result (out.new.items ≡ out.old.items ++ as_items lines.now) }
+{
+    let items = &lines[..lines.len().saturating_sub(1)];
+    'octets: for octet in items {
+        out.push(comma_for(*octet))?;
+    }
+    Ok(())
+}
+
+// A comma for a line break, and any other byte as it is.
+fn comma_for(octet: u8) -> u8
+    ensures { result ≡ comma_for octet }
+{
+    if octet == b'\n' { b',' } else { octet }
+}
+
+// What a report tells.
+fn report_told<'a>(alloc: Global, report: &'a Report) -> Result<Told<'a>, AllocError>
+    ensures { IfOk result (λ told. told_by told ≡ report_told report.entry.now) }
 {
     match report {
-        Report::Done(answer) => {
-            let members = answer_members(alloc, answer)?;
-            with_status(alloc, members, 0)
-        }
-        Report::Refused(refusal) => {
-            let members = refusal_members(alloc, refusal)?;
-            with_status(alloc, members, 1)
-        }
-        Report::Wrong(fault) => {
-            let members = fault_members(alloc, *fault)?;
-            with_status(alloc, members, 2)
-        }
+        Report::Done(answer) => answer_told(alloc, answer),
+        Report::Refused(refusal) => Ok(Told::Members(refusal_members(alloc, refusal)?)),
+        Report::Wrong(fault) => Ok(Told::Members(fault_members(alloc, *fault)?)),
+    }
+}
+
+// The number of the status of its line.
+fn status_of(report: &Report) -> u8
+    ensures { result ≡ status_of (outcome_of report.now) }
+{
+    match report {
+        Report::Done(_) => 0,
+        Report::Refused(_) => 1,
+        Report::Wrong(_) => 2,
     }
 }
 
@@ -120,26 +166,33 @@ fn with_status(alloc: Global, members: Map<String, Value>, status: u8) -> Result
     Ok(Value::from(members))
 }
 
-// What an answer has beside the status.
-fn answer_members(alloc: Global, answer: &Answer) -> Result<Map<String, Value>, AllocError>
-    ensures { IfOk result (λ members. members_view members.entries ≡ members_in answer.now) }
+// What an answer tells.
+fn answer_told<'a>(alloc: Global, answer: &'a Answer) -> Result<Told<'a>, AllocError>
+    ensures { IfOk result (λ told. told_by told ≡ answer_told answer.entry.now) }
 {
     match answer {
-        Answer::Replied(reply) => reply_members(alloc, reply),
-        Answer::Exported(number) => one_member(alloc, "exported", Value::from(*number)),
+        Answer::Replied(reply) => reply_told(alloc, reply),
+        Answer::Exported(number) => {
+            Ok(Told::Members(one_member(alloc, "exported", Value::from(*number))?))
+        }
     }
 }
 
-// What a reply has.
-fn reply_members(alloc: Global, reply: &Reply) -> Result<Map<String, Value>, AllocError>
-    ensures { IfOk result (λ members. members_view members.entries ≡ reply_members_in reply.now) }
+// What a reply tells.
+fn reply_told<'a>(alloc: Global, reply: &'a Reply) -> Result<Told<'a>, AllocError>
+    ensures { IfOk result (λ told. told_by told ≡ reply_told reply.entry.now) }
 {
     match reply {
-        Reply::Stored => Ok(Map::new(alloc)),
-        Reply::Filed(rows) => entries_members(alloc, rows),
-        Reply::Listed(rows) => entries_members(alloc, rows),
-        Reply::Removed(number) => one_member(alloc, "removed", Value::from(*number)),
-        Reply::Migrated(count) => one_member(alloc, "migrated", Value::from(*count)),
+        Reply::Stored => Ok(Told::Members(Map::new(alloc))),
+        Reply::Filed(rows) => Ok(Told::Members(entries_members(alloc, rows)?)),
+        Reply::Listed(rows) => Ok(Told::Members(entries_members(alloc, rows)?)),
+        Reply::Catalog(lines) => Ok(Told::Lines(lines)),
+        Reply::Removed(number) => {
+            Ok(Told::Members(one_member(alloc, "removed", Value::from(*number))?))
+        }
+        Reply::Migrated(count) => {
+            Ok(Told::Members(one_member(alloc, "migrated", Value::from(*count))?))
+        }
     }
 }
 
