@@ -10,7 +10,8 @@ use Rattle.sha2.specs.Sha256.{sha256}
 use Rattle.mime_decode.specs.Mail.{mail_of}
 use Rattle.catalog.specs.Catalog.{Filed, catalog, line_among, messages_of, numbered, part_entry, parts_of, piece_of, row_of_filed}
 use Rattle.catalog.specs.Index.{is_stored}
-use Rattle.catalog.specs.Keeping.{HasPart, Known, Outlined, known_as, known_of, message_in, messages_in, outlined, part_beside, part_in, parts_above, parts_in}
+use Rattle.catalog.specs.Keeping.{Known, Outlined, known_as, known_of, outlined}
+use Rattle.catalog.specs.Making.{HasPart, message_in, messages_in, part_beside, part_in, parts_above, parts_in}
 use Rattle.catalog.specs.Rows.{Row}
 use Rattle.catalog.specs.Stored.{Numbered, digests_of}
 use Rattle.catalog.specs.declared.entry.PartEntry.{PartEntry}

@@ -10,9 +10,11 @@ pub mod Stored
 pub mod Lines
 -- what an index of entries and messages has
 pub mod Index
--- private: what one part of a message adds to it
-pub mod Adding
 -- the text of a catalog
 pub mod Catalog
--- private: what is kept of an entry while a catalog is made
+-- what is kept of an entry while a catalog is made
 pub mod Keeping
+-- private: what one part of a message adds to an index
+pub mod Adding
+-- private: which entries that were kept belong together
+pub mod Making

@@ -6,7 +6,8 @@
 ghost use Rattle.std.specs.Prelude.{◌≡◌, [], ◌∷◌, ◌++◌, List, IfOk, OnOk, filter_map, map, nat_lt, true};
 ghost use Rattle.catalog.specs.Catalog.{Filed, catalog, line_among, messages_of, parts_of, piece_of};
 ghost use Rattle.catalog.specs.Index.{IsIndex};
-ghost use Rattle.catalog.specs.Keeping.{HasPart, known_as, known_of, message_in, messages_in, part_in, parts_above, parts_in};
+ghost use Rattle.catalog.specs.Keeping.{known_as, known_of};
+ghost use Rattle.catalog.specs.Making.{HasPart, message_in, messages_in, part_in, parts_above, parts_in};
 ghost use Rattle.catalog.specs.Stored.{Numbered};
 ghost use Rattle.catalog.specs.declared.entry.PartEntry.{PartEntry};
 

@@ -1,9 +1,10 @@
 use Rattle.std.proofs.Common.{[], ap, subst, sym, ◌∙◌}
 use Rattle.catalog.specs.Catalog.{messages_of, parts_of}
 use Rattle.catalog.specs.Index.{IsIndex}
-use Rattle.catalog.specs.Keeping.{parts_above}
+use Rattle.catalog.specs.Making.{parts_above}
 use Rattle.catalog.proofs.CatalogLemmas.{filed_at, got_at, part_is_stored, piece_more, same_messages, same_parts, whole_text}
-use Rattle.catalog.specs.Keeping.{known_as, known_of, messages_in, parts_in}
+use Rattle.catalog.specs.Keeping.{known_as, known_of}
+use Rattle.catalog.specs.Making.{messages_in, parts_in}
 use Rattle.std.proofs.Common.{◌≡◌, map, ◌++◌}
 use Rattle.catalog.specs.Catalog.{piece_of}
 use Rattle.catalog.proofs.catalog.catalog_text.Goals as goal

@@ -1,5 +1,5 @@
 use Rattle.std.proofs.Common.{◌≡◌, take}
-use Rattle.catalog.specs.Keeping.{parts_above}
+use Rattle.catalog.specs.Making.{parts_above}
 use Rattle.catalog.proofs.catalog.entries_above.Given as goal
 
 abbrev pub invariant-loop-entry : goal.invariant-loop-entry

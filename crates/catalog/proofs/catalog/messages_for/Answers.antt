@@ -1,6 +1,7 @@
 use Rattle.std.proofs.Common.{filter_map, map, subst, take}
 use Rattle.catalog.specs.Index.{IsIndex}
-use Rattle.catalog.specs.Keeping.{known_as, message_in, parts_above}
+use Rattle.catalog.specs.Keeping.{known_as}
+use Rattle.catalog.specs.Making.{message_in, parts_above}
 use Rattle.catalog.proofs.CatalogLemmas.{got_at, more_picked}
 use Rattle.catalog.proofs.catalog.messages_for.Goals as goal
 

@@ -1,6 +1,7 @@
 use Rattle.std.proofs.Common.{filter_map, map, take}
 use Rattle.catalog.specs.Index.{IsIndex}
-use Rattle.catalog.specs.Keeping.{known_as, message_in, parts_above}
+use Rattle.catalog.specs.Keeping.{known_as}
+use Rattle.catalog.specs.Making.{message_in, parts_above}
 use Rattle.catalog.proofs.catalog.messages_for.Given as goal
 
 abbrev pub invariant-loop-entry : goal.invariant-loop-entry

@@ -1,5 +1,6 @@
 use Rattle.std.proofs.Common.{◌++◌, ap, filter_map, ◌∷◌, [], ◌∙◌}
-use Rattle.catalog.specs.Keeping.{known_as, part_in}
+use Rattle.catalog.specs.Keeping.{known_as}
+use Rattle.catalog.specs.Making.{part_in}
 use Rattle.catalog.proofs.CatalogLemmas.{got_at, more_picked}
 use Rattle.catalog.proofs.catalog.part_entries.Goals as goal
 
