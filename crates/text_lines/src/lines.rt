@@ -101,6 +101,13 @@ fn first_feed(text: &[u8]) -> Option<usize>
     if text.len() < NEAR {
         return first_feed_one_by_one(text);
     }
+    // an empty line or one blank, as the processor guesses it, takes less time than the search
+    if text[0] == b'\n' {
+        return Some(0);
+    }
+    if text[1] == b'\n' {
+        return Some(1);
+    }
     let place = places_before_feed(text);
     if place < NEAR {
         return Some(place);
