@@ -5,7 +5,7 @@ use Rattle.std.specs.Option.{option_or}
 use Rattle.glob_match.specs.Captures.{texts}
 use Rattle.glob_match.specs.declared.comparator.Comparator.{Comparator}
 use Rattle.glob_match.specs.declared.match_type.Match.{Match}
-use Rattle.glob_match.specs.declared.match_type.MatchType.TheVariants.{Is}
+use Rattle.glob_match.specs.declared.match_type.MatchType.TheVariants as kinds
 use Rattle.mail_matching.specs.Costs.{extent_of}
 use Rattle.mail_matching.specs.Findings.{finding_of, is_pair, shortened}
 use Rattle.mail_matching.specs.declared.comparing.Compared.{Compared}
@@ -30,7 +30,15 @@ key_in (Sets key stretches) = Some key.now
 
 -- how `:is` matches under a comparator
 abbrev pub equalling : Comparator → Match
-equalling comparator = record { kind = Is; comparator = comparator }
+equalling comparator = record { kind = kinds.Is; comparator = comparator }
+
+-- how `:contains` matches under a comparator
+abbrev pub containing : Comparator → Match
+containing comparator = record { kind = kinds.Contains; comparator = comparator }
+
+-- how `:matches` matches under a comparator
+abbrev pub fitting : Comparator → Match
+fitting comparator = record { kind = kinds.Matches; comparator = comparator }
 
 -- what values come to and then others
 abbrev pub further : Finding → Finding → Finding

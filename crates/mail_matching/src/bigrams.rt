@@ -8,9 +8,6 @@ ghost use Rattle.glob_match.specs.Containment.{contains_match};
 ghost use Rattle.glob_match.specs.Matching.{match_of};
 ghost use Rattle.glob_match.specs.declared.comparator.Comparator.{Comparator};
 ghost use Rattle.mail_matching.specs.Bigrams.{Covers, bit_of, is_special};
-ghost use Rattle.mail_matching.specs.Findings.{is_matched_by};
-
-use glob_match::MatchType;
 
 /// How many bytes of a key are looked at. Further ones would rule out few more keys, and a long key would take long.
 const LOOKED_AT: usize = 8;
@@ -36,22 +33,9 @@ impl Bigrams {
         Bigrams { rows }
     }
 
-    /// Returns `false` only if no value with these bigrams matches the key.
+    /// Returns `false` only if no value with these bigrams contains the key.
     #[inline(always)]
-    pub(crate) fn may_match(&self, key: &[u8], kind: MatchType) -> bool
-        ensures { result ≡ false → (comparator : Comparator) (value : List ℕ)
-            → Covers self.now.rows value → is_matched_by kind comparator value key.now ≡ false }
-    {
-        match kind {
-            MatchType::Is => true,
-            MatchType::Contains => self.may_contain(key),
-            MatchType::Matches => self.may_fit(key),
-        }
-    }
-
-    // Returns `false` only if no value with these bigrams contains the key.
-    #[inline(always)]
-    fn may_contain(&self, key: &[u8]) -> bool
+    pub(crate) fn may_contain(&self, key: &[u8]) -> bool
         ensures { result ≡ false → (comparator : Comparator) (value : List ℕ)
             → Covers self.now.rows value → contains_match comparator value key.now ≡ false }
     {
@@ -63,10 +47,10 @@ impl Bigrams {
         true
     }
 
-    // Returns `false` only if no value with these bigrams fits the key. Two bytes that have no special meaning in a
-    // key are literal, whatever stands before them.
+    /// Returns `false` only if no value with these bigrams fits the key. Two bytes that have no special meaning in a
+    /// key are literal, whatever stands before them.
     #[inline(always)]
-    fn may_fit(&self, key: &[u8]) -> bool
+    pub(crate) fn may_fit(&self, key: &[u8]) -> bool
         ensures { result ≡ false → (comparator : Comparator) (value : List ℕ)
             → Covers self.now.rows value → match_of comparator value key.now ≡ None }
     {

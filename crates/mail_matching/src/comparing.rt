@@ -2,10 +2,12 @@
 ghost use Rattle.std.specs.Prelude.{◌≡◌, ◌≤◌, ◌∷◌, [], ℕ, List, false, IsOk, None, OnOk, Some, length, if◌then◌else◌};
 ghost use Rattle.std.specs.Cow.{IsBorrowedSlice, cow_slice_items};
 ghost use Rattle.octets.specs.Limits.{max_message, max_string};
+ghost use Rattle.glob_match.specs.Containment.{contains_match};
+ghost use Rattle.mail_matching.specs.Bigrams.{Covers};
 ghost use Rattle.mail_matching.specs.Findings.{finding_of, is_matched_by, key_of};
 ghost use Rattle.mail_matching.specs.FirstMatch.{KeepsCaptures, after_match, first_key};
 ghost use Rattle.mail_matching.specs.Outcomes.{after, holds};
-ghost use Rattle.mail_matching.specs.Private.{after_compared, equalling, further, key_in};
+ghost use Rattle.mail_matching.specs.Private.{after_compared, containing, equalling, fitting, further, key_in};
 ghost use Rattle.mail_matching.specs.Texts.{AreTexts};
 ghost use Rattle.mail_matching.specs.declared.finding.Finding.TheVariants.{NoneOf};
 
@@ -130,11 +132,19 @@ pub(crate) fn first_comparison<'k, K: Texts>(value: &[u8], keys: &'k K, how: Mat
         ≡ first_key how value.now (K.texts keys.now) captures }
     ensures key { key_in result ≡ key_of how value.now (K.texts keys.now) }
 {
-    if let MatchType::Is = how.kind {
-        return first_equal(value, keys, how.comparator);
-    }
-    if is_worth_a_set(value.len(), keys.count()) {
-        return first_by_bigrams(value, keys, how);
+    let has_set = is_worth_a_set(value.len(), keys.count());
+    match how.kind {
+        MatchType::Is => return first_equal(value, keys, how.comparator),
+        MatchType::Contains => {
+            if has_set {
+                return first_contained(value, keys, how.comparator);
+            }
+        }
+        MatchType::Matches => {
+            if has_set {
+                return first_fitting(value, keys, how.comparator);
+            }
+        }
     }
     for place in 0..keys.count() {
         match compare(value, keys.text(place), how) {
@@ -170,24 +180,55 @@ fn first_equal<'k, K: Texts>(value: &[u8], keys: &'k K, comparator: Comparator) 
     Compared::Differs
 }
 
-// The same without comparing the value with keys that its bigrams rule out. It isn't inlined, because its caller would
-// clear the room of the set for each value, with one key, too.
+// The same for `:contains`, without a search for keys that the value's bigrams rule out. It isn't inlined, because its
+// caller would clear the room of the set for each value, with one key, too. What sets captures has a function of its
+// own, because room for them would be cleared here, too.
 #[inline(never)]
-fn first_by_bigrams<'k, K: Texts>(value: &[u8], keys: &'k K, how: Match) -> Compared<'k>
+fn first_contained<'k, K: Texts>(value: &[u8], keys: &'k K, comparator: Comparator) -> Compared<'k>
     requires value { length value.now ≤ max_message }
     requires keys { AreTexts (K.texts keys.now) }
     ensures captures { (captures : List (List ℕ))
         → after_compared value.now result captures
-        ≡ first_key how value.now (K.texts keys.now) captures }
-    ensures key { key_in result ≡ key_of how value.now (K.texts keys.now) }
+        ≡ first_key (containing comparator) value.now (K.texts keys.now) captures }
+    ensures key { key_in result ≡ key_of (containing comparator) value.now (K.texts keys.now) }
 {
     let bigrams = Bigrams::of(value);
     'places: for place in 0..keys.count() {
         let key = keys.text(place);
-        if bigrams.may_match(key, how.kind) {
-            match compare(value, key, how) {
-                Compared::Differs => {}
-                found => return found,
+        if contains_by_bigrams(&bigrams, value, key, comparator) {
+            return Compared::Matches(key);
+        }
+    }
+    Compared::Differs
+}
+
+// Whether a value with these bigrams contains the key.
+#[inline(always)]
+fn contains_by_bigrams(bigrams: &Bigrams, value: &[u8], key: &[u8], comparator: Comparator) -> bool
+    requires bigrams { Covers bigrams.now.rows value.now }
+    requires value { length value.now ≤ max_message }
+    requires key { length key.now ≤ max_string }
+    ensures { result ≡ contains_match comparator value.now key.now }
+{
+    bigrams.may_contain(key) && contains(value, key, comparator).0
+}
+
+// The same for `:matches`, without comparing the value with keys that its bigrams rule out.
+#[inline(never)]
+fn first_fitting<'k, K: Texts>(value: &[u8], keys: &'k K, comparator: Comparator) -> Compared<'k>
+    requires value { length value.now ≤ max_message }
+    requires keys { AreTexts (K.texts keys.now) }
+    ensures captures { (captures : List (List ℕ))
+        → after_compared value.now result captures
+        ≡ first_key (fitting comparator) value.now (K.texts keys.now) captures }
+    ensures key { key_in result ≡ key_of (fitting comparator) value.now (K.texts keys.now) }
+{
+    let bigrams = Bigrams::of(value);
+    'places: for place in 0..keys.count() {
+        let key = keys.text(place);
+        if bigrams.may_fit(key) {
+            if let Some(stretches) = matches(value, key, comparator).0 {
+                return Compared::Sets(key, stretches);
             }
         }
     }

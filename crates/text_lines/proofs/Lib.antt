@@ -1,4 +1,5 @@
 pub mod Broken
 mod Examples
 pub mod FirstLine
+pub mod Near
 pub mod Slices
