@@ -17,8 +17,8 @@ use Rattle.part_store.proofs.Writes.{same_value, went}
 
 module _ (text : List ℕ) (was : Schema) (table : Table) (means : Means was text CreateTable) (same : statement_of text (understood was text) ≡ text) (defined : table_defined_by text ≡ Ok table)
     (plain : lacks_sequence (created was table) ≡ false) where
-  pub makes : (old new : State) (count : ℕ) → ExecutesInside 0 text [] old new (Ok count) → IsMade was (created was table) (next_tree was) old.now new.now
-  makes old new count h has =
+  pub table_made : (old new : State) (count : ℕ) → ExecutesInside 0 text [] old new (Ok count) → IsMade was (created was table) (next_tree was) old.now new.now
+  table_made old new count h has =
       let w = subst (λ t. Writes old new None CreateTable t [] count) same (runs_as text [] old new was has CreateTable means.0 means.1 count h.0) in
       let all = went w.changed in
       let first = went all.1 in

@@ -1,6 +1,7 @@
 -- What a statement in a transaction leaves, and what it was.
-use Rattle.std.proofs.Common.{◌≡◌, ◌≢◌, ◌⊎◌, inl, inr, ℕ, Bool, true, false, ◌&&◌, List, [], ◌∷◌, Option, Some, None, Ok, Err, Result, refl, sym, ap, subst, ◌∙◌, IsTrue, slice_get, OnOk, OnErr, IfOk, IfErr, IsErrAnd, not}
+use Rattle.std.proofs.Common.{◌≡◌, ◌≢◌, ◌⊎◌, inl, inr, ℕ, Bool, true, false, ◌&&◌, List, [], ◌∷◌, Option, Some, None, Ok, Err, Result, refl, sym, ap, subst, ◌∙◌, IsTrue, slice_get, OnOk, IfOk, IfErr, IsErrAnd, not}
 use Rattle.std.proofs.lemmas.Bool.{cases_Bool, false_from_ne_true}
+use Rattle.std.specs.Borrow.{MutBor}
 use Rattle.sqlite_trees.specs.declared.store.Store as store
 use Rattle.sqlite_trees.specs.Tree.{Trees}
 use Rattle.sqlite_value.specs.Order.{Row}
@@ -18,10 +19,11 @@ use Rattle.sqlite.specs.declared.error.ErrorCode.TheVariants.{TransactionState}
 use Rattle.sqlite.specs.Effect.{Database, IsDatabase}
 use Rattle.sqlite.specs.Listing.{understood}
 use Rattle.sqlite.specs.Held.{Held, state}
-use Rattle.sqlite.specs.State.{State, HasCleanDisk, KeepsCommit, IsUnchanged, IsRolledBack, IsNotRun, ExecutesInside, FailsToQuery, FailsToShow, IsTooLate, Shown, ShowsRows, Runs}
+use Rattle.sqlite.specs.State.{State, HasCleanDisk, KeepsCommit, IsUnchanged, IsRolledBack, IsNotRun, ExecutesInside, FailsToQuery, FailsToShow, IsTooLate, Shown, ShowsRows, Runs, Survives}
 use Rattle.sqlite.proofs.Callers.{IsPlain, statement_of, runs_as, reads_as}
 use Rattle.part_store.specs.Tables.{store_schema}
 use Rattle.part_store.specs.Changes.{Steps, Reads, IsFound, IsTaken}
+use Rattle.part_store.specs.Private.{MakesTables, WritesTables}
 use Rattle.part_store.proofs.Meaning.{Means, picked, alone}
 use Rattle.part_store.proofs.Writes.{filter_same}
 use Rattle.part_store.proofs.Rows.{passes, shown, answer_from, answer_has}
@@ -71,6 +73,14 @@ shown_open sql params old new rows (c, it, shows) = shows_open sql _ old new c r
 pub stays : (s : State) → KeepsCommit s s
 stays s = record { was_open = λ h. h; committed = λ _. refl }
 
+pub on_ok : {B E : Type 0} (r : Result B E) (P : Type 0) → ((b : B) → r ≡ Ok b → P) → OnOk r P
+on_ok (Ok b) P f = f b refl
+on_ok (Err e) P f = tt
+
+pub failed_in : {B E : Type 0} (r : Result B E) (P : E → Type 0) → ((e : E) → r ≡ Err e → P e) → IfErr r P
+failed_in (Ok b) P f = tt
+failed_in (Err e) P f = f e refl
+
 module _ {S : Type 0} (g : store.Ghosts S) (old new : Held S) (sql : List ℕ) (params : Row) (r : Result ℕ Error)
     (ended : (state g old).in_transaction ≡ false → (r ≡ Err (SqliteFailure TransactionState)) × (new ≡ old))
     (runs : HasCleanDisk (state g new) → IsTrue (state g old).in_transaction → ExecutesInside 0 sql params (state g old) (state g new) r) (clean : HasCleanDisk (state g new)) where
@@ -95,6 +105,33 @@ module _ {S : Type 0} (g : store.Ghosts S) (old new : Held S) (sql : List ℕ) (
 
   pub refused_with : (e : Error) → e ≢ SqliteFailure TransactionState → r ≡ Err e → ExecutesInside 0 sql params (state g old) (state g new) (Err e)
   refused_with e other is = subst (ExecutesInside 0 sql params (state g old) (state g new)) is (runs clean (refused_inside e other is))
+
+-- what a statement that writes promises
+module _ {S : Type 0} (g : store.Ghosts S) (old new : MutBor (Held S)) (sql : List ℕ) (params : Row) (r : Result ℕ Error) (same : new.ghost_name ≡ old.ghost_name)
+    (ended : (state g old.now).in_transaction ≡ false → (r ≡ Err (SqliteFailure TransactionState)) × (new.now ≡ old.now))
+    (runs : HasCleanDisk (state g new.now) → IsTrue (state g old.now).in_transaction → ExecutesInside 0 sql params (state g old.now) (state g new.now) r)
+    (survives : Survives (state g old.now) (state g new.now) (λ _. ⊥)) (Changes : State → State → Type 0)
+    (changes : (count : ℕ) → ExecutesInside 0 sql params (state g old.now) (state g new.now) (Ok count) → Changes (state g old.now) (state g new.now)) where
+  pub makes : MakesTables g old new r Changes
+  makes = record {
+    same_reference = same;
+    step = λ clean. on_ok r _ (λ count is. changes count (executed g old.now new.now sql params r ended runs clean count is));
+    was_open = λ clean. on_ok r _ (λ count is. (executed g old.now new.now sql params r ended runs clean count is).1.was_open);
+    inside = λ clean. on_ok r _ (λ count is. (executed g old.now new.now sql params r ended runs clean count is).1.mode);
+    kept = execute_kept g old.now new.now sql params r ended runs;
+    survives = survives;
+  }
+
+  pub writes : (Why : State → State → Error → Type 0) → ((e : Error) → (IsTrue (state g old.now).in_transaction → ExecutesInside 0 sql params (state g old.now) (state g new.now) (Err e)) → Why (state g old.now) (state g new.now) e)
+      → WritesTables g old new r Changes Why
+  writes Why why = record {
+    same_reference = same;
+    step = makes.step;
+    inside = makes.inside;
+    kept = makes.kept;
+    fault = λ clean. failed_in r _ (λ e is. why e (λ inside. subst (ExecutesInside 0 sql params (state g old.now) (state g new.now)) is (runs clean inside)));
+    survives = survives;
+  }
 
 -- what the command does, where the tables are those of the store
 pub ran_as : (sql : List ℕ) (params : Row) (old new : State) (command : Command) (count : ℕ) → Means store_schema sql command → ExecutesInside 0 sql params old new (Ok count) → old.now.schema ≡ store_schema
@@ -149,16 +186,8 @@ pub found_as : (tree : ℕ) (test test2 : Row → Bool) (show show2 : Row → Ro
 found_as tree test test2 show show2 db None same looks h = λ r there. sym (same r) ∙ h r there
 found_as tree test test2 show show2 db (Some row) same looks h = (h.0, h.1, sym (same h.0) ∙ h.2, h.3 ∙ looks h.0)
 
-pub on_ok : {B E : Type 0} (r : Result B E) (P : Type 0) → ((b : B) → r ≡ Ok b → P) → OnOk r P
-on_ok (Ok b) P f = f b refl
-on_ok (Err e) P f = tt
-
 pub taken_as : (tree : ℕ) (test test2 : Row → Bool) (old new : Trees) → ((r : Row) → test r ≡ test2 r) → IsTaken tree test old new → IsTaken tree test2 old new
 taken_as tree test test2 old new same h = record { rows = λ up keyed. h.rows up keyed ∙ filter_same _ _ (old tree) (λ r _. ap not (same r)); others = h.others }
-
-pub on_err : {B E : Type 0} (r : Result B E) (P : Type 0) → P → OnErr r P
-on_err (Ok b) P h = tt
-on_err (Err e) P h = h
 
 pub if_ok : {B E : Type 0} (r : Result B E) (P Q : B → Type 0) → ((b : B) → P b → Q b) → IfOk r P → IfOk r Q
 if_ok (Ok b) P Q f h = f b h
@@ -176,7 +205,3 @@ err_then (Err e) P Q f h = f e h
 pub passed : {B E : Type 0} (r : Result B E) (given : E) (P : E → Type 0) → IsErrAnd r (λ e. e ≡ given) → P given → IfErr r P
 passed (Ok b) given P h holds = tt
 passed (Err e) given P h holds = subst P (sym h) holds
-
-pub failed_in : {B E : Type 0} (r : Result B E) (P : E → Type 0) → ((e : E) → r ≡ Err e → P e) → IfErr r P
-failed_in (Ok b) P f = tt
-failed_in (Err e) P f = f e refl

@@ -25,5 +25,5 @@ pub mod Noting
 pub mod Additions
 pub mod Connections
 pub mod Blaming
-pub mod Asking
+pub mod Private
 pub mod Scanning

@@ -1,10 +1,9 @@
 //! How entries are added: first their numbers are claimed, then each entry is filed.
 ghost use Rattle.std.specs.Prelude.{◌≡◌, ◌⊎◌, ◌+◌, ◌<◌, ◌≤◌, true, false, IsTrue, length, map};
 ghost use Rattle.octets.specs.Limits.{max_entry_number};
-ghost use Rattle.part_store.specs.Access.{InTransaction};
 ghost use Rattle.part_store.specs.Standing.{Stands, draft_of};
 ghost use Rattle.part_store.specs.Blaming.{AsRefusal, AsRefusalInside};
-ghost use Rattle.part_store.specs.Inside.{Stays, IsInside, KeepsStored, KeepsTables, StaysInside};
+ghost use Rattle.part_store.specs.Inside.{IsInside, KeepsTables};
 ghost use Rattle.part_store.specs.Entries.{with_last};
 ghost use Rattle.part_store.specs.Refusals.{refusal_of, OnlyWhenFailed, OnlyWhenFailedOrNoEntryRoom, HasFailed, HasNoUserRoom, HaveNoRoom};
 ghost use Rattle.part_store.specs.Causes.{OnlyWhenNoRowsFit, TellsOfRow};
@@ -12,7 +11,8 @@ ghost use Rattle.part_store.specs.declared.error.StoreError.TheVariants.{Databas
 ghost use Rattle.part_store.specs.Additions.{Adds, CanFile, Claims, Enters, FilesAll, IsFrom};
 ghost use Rattle.part_store.specs.Filing.{Collides};
 ghost use Rattle.part_store.specs.Sharing.{SharesContents, first_of};
-ghost use Rattle.part_store.specs.Calls.{Always, CommitsNothing, IfDone, IfRefused, OnDone};
+ghost use Rattle.part_store.specs.Calls.{IfDone, IfRefused, OnDone};
+ghost use Rattle.part_store.specs.Private.{KeepsInside, ReadsInside, WorksInside};
 
 use crate::entry::NewEntry;
 use crate::filing::file_entry;
@@ -50,7 +50,6 @@ pub(crate) fn put_entries<S: Alter>(
 ) -> Result<Adding, Error>
     requires some { 0 < length entries.now }
     requires shared { SharesContents (map draft_of entries.now) (map first_of shared.old) }
-    ensures same_reference { tx.new.conn.ghost_name ≡ tx.old.conn.ghost_name }
     ensures adds { IfDone S.Store tx.old.conn.now tx.new.conn.now result
         (λ answer old new. Adds user.now (map draft_of entries.now) old new answer) }
     ensures inside { IfDone S.Store tx.old.conn.now tx.new.conn.now result
@@ -58,7 +57,7 @@ pub(crate) fn put_entries<S: Alter>(
     ensures schema { OnDone S.Store tx.old.conn.now tx.new.conn.now result KeepsTables }
     ensures cause { IfRefused S.Store tx.old.conn.now tx.new.conn.now result
         (AsRefusalInside (OnlyWhenFailedOrNoEntryRoom user.now (map draft_of entries.now))) }
-    ensures within { InTransaction S.Store tx.old.conn.now tx.new.conn.now result }
+    ensures within { WorksInside S.Store tx.old.conn tx.new.conn result }
 {
     let (last, is_known) = last_of(tx, user)?;
     if entries.len() > (u32::MAX - last) as usize {
@@ -91,7 +90,6 @@ fn claim_and_file<S: Alter>(
     requires some { 0 < length entries.now }
     requires shared { SharesContents (map draft_of entries.now) (map first_of shared.old) }
     requires room { last + length entries.now ≤ max_entry_number }
-    ensures same_reference { tx.new.conn.ghost_name ≡ tx.old.conn.ghost_name }
     ensures filed { IfDone S.Store tx.old.conn.now tx.new.conn.now result
         (λ done old new. done ≡ true → (before : _) → Stands old.now before
         → last ≡ before.lasts user.now
@@ -104,15 +102,13 @@ fn claim_and_file<S: Alter>(
         → Collides old.now.trees (map draft_of entries.now)) }
     ensures inside { IfDone S.Store tx.old.conn.now tx.new.conn.now result
         (λ done _ new. done ≡ true → IsTrue new.in_transaction) }
-    ensures schema { OnDone S.Store tx.old.conn.now tx.new.conn.now result KeepsTables }
-    ensures kept { Always S.Store tx.old.conn.now tx.new.conn.now KeepsStored }
     ensures cause { IfRefused S.Store tx.old.conn.now tx.new.conn.now result
         (λ old new e. IsTrue old.in_transaction
         → ((before : _) → Stands old.now before
         → (last ≡ before.lasts user.now)
         × TellsOfRow user.now old.now.trees is_known)
         → OnlyWhenNoRowsFit user.now (map draft_of entries.now) old new (refusal_of e)) }
-    ensures survives { CommitsNothing S.Store tx.old.conn.now tx.new.conn.now }
+    ensures within { KeepsInside S.Store tx.old.conn tx.new.conn result }
 {
     claim(tx, user, is_known, last + entries.len() as u32)?;
     file_all(tx, user, last, entries, shared)
@@ -123,14 +119,11 @@ pub(crate) fn last_of<S: Alter>(
     tx: &mut Transaction<'_, S>,
     user: &str,
 ) -> Result<(u32, bool), Error>
-    ensures same_reference { tx.new.conn.ghost_name ≡ tx.old.conn.ghost_name }
     ensures answer { IfDone S.Store tx.old.conn.now tx.new.conn.now result
         (λ found old _. (before : _) → Stands old.now before
         → (found.0 ≡ before.lasts user.now) × TellsOfRow user.now old.now.trees found.1) }
-    ensures same { OnDone S.Store tx.old.conn.now tx.new.conn.now result Stays }
-    ensures inside { OnDone S.Store tx.old.conn.now tx.new.conn.now result StaysInside }
     ensures cause { IfRefused S.Store tx.old.conn.now tx.new.conn.now result (AsRefusal OnlyWhenFailed) }
-    ensures within { InTransaction S.Store tx.old.conn.now tx.new.conn.now result }
+    ensures within { ReadsInside S.Store tx.old.conn tx.new.conn result }
 {
     match users::find_last(tx, user)? {
         Some(row) => Ok((row.get(0)?, true)),
@@ -145,20 +138,17 @@ fn claim<S: Alter>(
     is_known: bool,
     last: u32,
 ) -> Result<(), Error>
-    ensures same_reference { tx.new.conn.ghost_name ≡ tx.old.conn.ghost_name }
     ensures claimed { OnDone S.Store tx.old.conn.now tx.new.conn.now result
         (λ old new. (before : _) → Stands old.now before
         → TellsOfRow user.now old.now.trees is_known
         → before.lasts user.now ≤ last → Claims user.now last before old new) }
     ensures inside { OnDone S.Store tx.old.conn.now tx.new.conn.now result IsInside }
-    ensures schema { OnDone S.Store tx.old.conn.now tx.new.conn.now result KeepsTables }
-    ensures kept { Always S.Store tx.old.conn.now tx.new.conn.now KeepsStored }
     ensures cause { IfRefused S.Store tx.old.conn.now tx.new.conn.now result
         (λ old new e. refusal_of e ≡ Database → IsTrue old.in_transaction → (before : _)
         → Stands old.now before → TellsOfRow user.now old.now.trees is_known
         → HasFailed old new
         ⊎ HasNoUserRoom user.now (with_last user.now last before) old.now.trees) }
-    ensures survives { CommitsNothing S.Store tx.old.conn.now tx.new.conn.now }
+    ensures within { KeepsInside S.Store tx.old.conn tx.new.conn result }
 {
     if is_known {
         users::renew(tx, user, last)?;
@@ -187,7 +177,6 @@ fn file_all<S: Alter>(
     requires some { 0 < length entries.now }
     requires shared { SharesContents (map draft_of entries.now) (map first_of shared.old) }
     requires room { last + length entries.now ≤ max_entry_number }
-    ensures same_reference { tx.new.conn.ghost_name ≡ tx.old.conn.ghost_name }
     ensures filed { IfDone S.Store tx.old.conn.now tx.new.conn.now result
         (λ done old new. done ≡ true → (before : _) → Stands old.now before
         → CanFile before user.now last (length entries.now)
@@ -198,13 +187,11 @@ fn file_all<S: Alter>(
         → Collides old.now.trees (map draft_of entries.now)) }
     ensures inside { IfDone S.Store tx.old.conn.now tx.new.conn.now result
         (λ done _ new. done ≡ true → IsTrue new.in_transaction) }
-    ensures schema { OnDone S.Store tx.old.conn.now tx.new.conn.now result KeepsTables }
-    ensures kept { Always S.Store tx.old.conn.now tx.new.conn.now KeepsStored }
     ensures cause { IfRefused S.Store tx.old.conn.now tx.new.conn.now result
         (λ old new e. refusal_of e ≡ Database → IsTrue old.in_transaction → (before : _)
         → Stands old.now before → CanFile before user.now last (length entries.now)
         → HasFailed old new ⊎ HaveNoRoom user.now (map draft_of entries.now) old.now.trees) }
-    ensures survives { CommitsNothing S.Store tx.old.conn.now tx.new.conn.now }
+    ensures within { KeepsInside S.Store tx.old.conn tx.new.conn result }
 {
     let mut number = last;
     for entry in entries {

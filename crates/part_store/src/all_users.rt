@@ -1,18 +1,16 @@
 //! All users that a store knows, and how users are put in.
-ghost use Rattle.std.specs.Prelude.{◌≡◌, ◌⊎◌, ◌∷◌, ◌<◌, [], length, map, option_map, IsTrue, IfOk, IfErr};
-ghost use Rattle.part_store.specs.Access.{InTransaction};
+ghost use Rattle.std.specs.Prelude.{◌≡◌, ◌∷◌, ◌<◌, [], length, map, option_map, IsTrue, IfOk, IfErr};
 ghost use Rattle.part_store.specs.Blaming.{AsRefusalInside};
-ghost use Rattle.part_store.specs.Causes.{RisesFrom};
 ghost use Rattle.part_store.specs.Changes.{columns, with_line};
 ghost use Rattle.part_store.specs.Tables.{users_tree};
-ghost use Rattle.part_store.specs.Standing.{Stands};
 ghost use Rattle.part_store.specs.UserLines.{AreUsersOf, line_of, with_users};
 ghost use Rattle.part_store.specs.Readings.{answer_of, ShowsUser};
 ghost use Rattle.std.specs.List.{AllByRecursion};
 ghost use Rattle.part_store.specs.Refusals.{refusal_of, OnlyWhenUnnamed, OnlyWhenFailedOrNoLineRoom, OnlyWhenFailedOrNoUserRoom};
-ghost use Rattle.part_store.specs.declared.error.StoreError.TheVariants.{Memory, Database};
-ghost use Rattle.part_store.specs.Calls.{Always, CommitsNothing, IfDone, IfRefused, OnDone, StaysClosed};
-ghost use Rattle.part_store.specs.Inside.{Brings, Stays, IsInside, KeepsStored, KeepsTables, StaysInside};
+ghost use Rattle.part_store.specs.declared.error.StoreError.TheVariants.{Database};
+ghost use Rattle.part_store.specs.Calls.{Always, IfRefused, OnDone, StaysClosed};
+ghost use Rattle.part_store.specs.Inside.{Brings, IsInside, StaysInside};
+ghost use Rattle.part_store.specs.Private.{KeepsInside, PutsUser, ReadsRows, TellsTables};
 
 use crate::adding::last_of;
 use crate::error::StoreError;
@@ -22,14 +20,9 @@ use sqlite::{Alter, Error, Row, Transaction};
 
 /// The users that have a row, in the order of their names.
 pub(crate) fn list_users<S: Alter>(tx: &mut Transaction<'_, S>) -> Result<Vec<UserRow>, StoreError>
-    ensures same_reference { tx.new.conn.ghost_name ≡ tx.old.conn.ghost_name }
-    ensures answer { IfDone S.Store tx.old.conn.now tx.new.conn.now result
-        (λ users old _. (before : _) → Stands old.now before
-        → AreUsersOf (old.now.trees users_tree) before (map line_of users.items)) }
-    ensures same { OnDone S.Store tx.old.conn.now tx.new.conn.now result Stays }
-    ensures refused { IfErr result (λ e. (e ≡ Memory) ⊎ (e ≡ Database)) }
-    ensures cause { IfRefused S.Store tx.old.conn.now tx.new.conn.now result OnlyWhenUnnamed }
-    ensures within { InTransaction S.Store tx.old.conn.now tx.new.conn.now result }
+    ensures { TellsTables S.Store tx.old.conn tx.new.conn result
+        (λ db before users. AreUsersOf (db users_tree) before (map line_of users.items))
+        OnlyWhenUnnamed }
 {
     let rows = users::list(tx)?;
     users_in(&rows)
@@ -37,11 +30,9 @@ pub(crate) fn list_users<S: Alter>(tx: &mut Transaction<'_, S>) -> Result<Vec<Us
 
 /// The users that the rows of an answer show.
 fn users_in(rows: &Vec<Row>) -> Result<Vec<UserRow>, StoreError>
-    ensures shown { IfOk result (λ users. map answer_of users.items
-        ≡ map (columns (0 ∷ 1 ∷ 2 ∷ [])) rows.now.items) }
-    ensures refused { IfErr result (λ e. (e ≡ Memory) ⊎ (e ≡ Database)) }
-    ensures cause { IfErr result (λ e. e ≡ Database
-        → AllByRecursion ShowsUser rows.now.items → ⊥) }
+    ensures { ReadsRows result
+        (λ users. map answer_of users.items ≡ map (columns (0 ∷ 1 ∷ 2 ∷ [])) rows.now.items)
+        (AllByRecursion ShowsUser rows.now.items → ⊥) }
 {
     let mut users = Vec::with_capacity(*rows.allocator(), rows.len())?;
     for row in rows {
@@ -64,17 +55,15 @@ fn user_in(row: &Row) -> Result<UserRow, Error>
 
 /// Puts users in, one after another.
 pub(crate) fn put_all<S: Alter>(tx: &mut Transaction<'_, S>, rows: &[UserRow]) -> Result<(), Error>
-    ensures same_reference { tx.new.conn.ghost_name ≡ tx.old.conn.ghost_name }
     ensures step { OnDone S.Store tx.old.conn.now tx.new.conn.now result
         (Brings (with_users (map line_of rows.now))) }
     ensures open { OnDone S.Store tx.old.conn.now tx.new.conn.now result
         (λ old _. 0 < length rows.now → IsTrue old.is_open) }
     ensures inside { OnDone S.Store tx.old.conn.now tx.new.conn.now result StaysInside }
     ensures stays_closed { Always S.Store tx.old.conn.now tx.new.conn.now StaysClosed }
-    ensures kept { Always S.Store tx.old.conn.now tx.new.conn.now KeepsStored }
     ensures cause { IfRefused S.Store tx.old.conn.now tx.new.conn.now result
         (AsRefusalInside (OnlyWhenFailedOrNoLineRoom (map line_of rows.now))) }
-    ensures survives { CommitsNothing S.Store tx.old.conn.now tx.new.conn.now }
+    ensures within { KeepsInside S.Store tx.old.conn tx.new.conn result }
 {
     for row in rows {
         put_user(tx, row)?;
@@ -84,17 +73,8 @@ pub(crate) fn put_all<S: Alter>(tx: &mut Transaction<'_, S>, rows: &[UserRow]) -
 
 /// Puts a user in.
 fn put_user<S: Alter>(tx: &mut Transaction<'_, S>, row: &UserRow) -> Result<(), Error>
-    ensures same_reference { tx.new.conn.ghost_name ≡ tx.old.conn.ghost_name }
-    ensures step { OnDone S.Store tx.old.conn.now tx.new.conn.now result
-        (Brings (with_users (line_of row.now ∷ []))) }
-    ensures inside { OnDone S.Store tx.old.conn.now tx.new.conn.now result IsInside }
-    ensures schema { OnDone S.Store tx.old.conn.now tx.new.conn.now result KeepsTables }
-    ensures cause { IfRefused S.Store tx.old.conn.now tx.new.conn.now result
-        (AsRefusalInside (OnlyWhenFailedOrNoLineRoom (line_of row.now ∷ []))) }
-    ensures rowids { OnDone S.Store tx.old.conn.now tx.new.conn.now result
-        (λ old new. (before : _) → Stands old.now before
-        → RisesFrom 1 (old.now.trees users_tree) (new.now.trees users_tree)) }
-    ensures within { InTransaction S.Store tx.old.conn.now tx.new.conn.now result }
+    ensures { PutsUser S.Store tx.old.conn tx.new.conn result (with_users (line_of row.now ∷ []))
+        IsInside (OnlyWhenFailedOrNoLineRoom (line_of row.now ∷ [])) }
 {
     put_line(tx, row.user.as_str(), row.last, row.program.as_deref())
 }
@@ -107,18 +87,10 @@ pub(crate) fn put_line<S: Alter>(
     last: u32,
     program: Option<&[u8]>,
 ) -> Result<(), Error>
-    ensures same_reference { tx.new.conn.ghost_name ≡ tx.old.conn.ghost_name }
-    ensures step { OnDone S.Store tx.old.conn.now tx.new.conn.now result
-        (Brings (with_line user.now last (option_map (λ octets. octets.now) program.entry))) }
-    ensures inside { OnDone S.Store tx.old.conn.now tx.new.conn.now result IsInside }
-    ensures schema { OnDone S.Store tx.old.conn.now tx.new.conn.now result KeepsTables }
-    ensures cause { IfRefused S.Store tx.old.conn.now tx.new.conn.now result
-        (AsRefusalInside (OnlyWhenFailedOrNoUserRoom user.now
-        (with_line user.now last (option_map (λ octets. octets.now) program.entry)))) }
-    ensures rowids { OnDone S.Store tx.old.conn.now tx.new.conn.now result
-        (λ old new. (before : _) → Stands old.now before
-        → RisesFrom 1 (old.now.trees users_tree) (new.now.trees users_tree)) }
-    ensures within { InTransaction S.Store tx.old.conn.now tx.new.conn.now result }
+    ensures { PutsUser S.Store tx.old.conn tx.new.conn result
+        (with_line user.now last (option_map (λ octets. octets.now) program.entry)) IsInside
+        (OnlyWhenFailedOrNoUserRoom user.now
+        (with_line user.now last (option_map (λ octets. octets.now) program.entry))) }
 {
     let (before, _is_known) = last_of(tx, user)?;
     users::remove(tx, user)?;

@@ -8,14 +8,11 @@ ghost use Rattle.std.specs.Prelude.{◌≡◌, ◌≢◌, [], ◌∷◌, true, f
 ghost use Rattle.sha2.specs.Sha256.{sha256};
 ghost use Rattle.sqlite_value.specs.declared.value.Value.TheVariants.{Blob};
 ghost use Rattle.sqlite.specs.Effect.{IsDatabase};
-ghost use Rattle.sqlite.specs.State.{KeepsCommit};
-ghost use Rattle.part_store.specs.Changes.{Steps, Reads, IsFound, IsAdded, IsListed, every, columns, length_at, sized, IsTidied, IsTableIn};
+ghost use Rattle.part_store.specs.Changes.{Steps, IsFound, IsAdded, IsListed, every, columns, length_at, sized, IsTidied, IsTableIn};
 ghost use Rattle.part_store.specs.Tables.{contents_tree, equals, contents_table, store_schema};
 ghost use Rattle.part_store.specs.Refusals.{content_values};
 ghost use Rattle.part_store.specs.Causes.{AddFaults, HasNoContent, WriteFaults, content_altered, still_named};
-ghost use Rattle.part_store.specs.Asking.{AsksTables};
-ghost use Rattle.part_store.specs.Calls.{Always, CommitsNothing, IfDone, IfRefused, OnDone, OnRefused};
-ghost use Rattle.part_store.specs.Inside.{IsInside};
+ghost use Rattle.part_store.specs.Private.{AsksTables, WritesTables};
 
 use crate::users::first_of;
 use sha2::{Digest, Sha256};
@@ -42,11 +39,8 @@ pub(crate) fn find<S: Alter>(
     tx: &mut Transaction<'_, S>,
     digest: &[u8],
 ) -> Result<Option<Row>, Error>
-    ensures same_reference { tx.new.conn.ghost_name ≡ tx.old.conn.ghost_name }
-    ensures step { IfDone S.Store tx.old.conn.now tx.new.conn.now result
-        (λ found. Steps (Reads
-        (λ db. IsFound contents_tree (equals 1 (Blob digest.now)) (columns (2 ∷ [])) db found))) }
-    ensures asks { AsksTables S.Store tx.old.conn.now tx.new.conn.now result }
+    ensures { AsksTables S.Store tx.old.conn tx.new.conn result
+        (λ found db. IsFound contents_tree (equals 1 (Blob digest.now)) (columns (2 ∷ [])) db found) }
 {
     let rows = tx.query_all(
         "SELECT octets FROM contents WHERE digest = ?1",
@@ -60,11 +54,8 @@ pub(crate) fn size<S: Alter>(
     tx: &mut Transaction<'_, S>,
     digest: &[u8],
 ) -> Result<Option<Row>, Error>
-    ensures same_reference { tx.new.conn.ghost_name ≡ tx.old.conn.ghost_name }
-    ensures step { IfDone S.Store tx.old.conn.now tx.new.conn.now result
-        (λ found. Steps (Reads
-        (λ db. IsFound contents_tree (equals 1 (Blob digest.now)) (length_at 2) db found))) }
-    ensures asks { AsksTables S.Store tx.old.conn.now tx.new.conn.now result }
+    ensures { AsksTables S.Store tx.old.conn tx.new.conn result
+        (λ found db. IsFound contents_tree (equals 1 (Blob digest.now)) (length_at 2) db found) }
 {
     let rows = tx.query_all(
         "SELECT length(octets) FROM contents WHERE digest = ?1",
@@ -75,10 +66,8 @@ pub(crate) fn size<S: Alter>(
 
 /// Each digest and the number of bytes under it.
 pub(crate) fn list<S: Alter>(tx: &mut Transaction<'_, S>) -> Result<Vec<Row>, Error>
-    ensures same_reference { tx.new.conn.ghost_name ≡ tx.old.conn.ghost_name }
-    ensures step { IfDone S.Store tx.old.conn.now tx.new.conn.now result
-        (λ found. Steps (Reads (IsListed contents_tree every sized found.items))) }
-    ensures asks { AsksTables S.Store tx.old.conn.now tx.new.conn.now result }
+    ensures { AsksTables S.Store tx.old.conn tx.new.conn result
+        (λ found. IsListed contents_tree every sized found.items) }
 {
     tx.query_all(
         "SELECT digest, length(octets) FROM contents ORDER BY digest",
@@ -92,15 +81,10 @@ pub(crate) fn add<S: Alter>(
     digest: &[u8],
     octets: &[u8],
 ) -> Result<usize, Error>
-    ensures same_reference { tx.new.conn.ghost_name ≡ tx.old.conn.ghost_name }
-    ensures step { OnDone S.Store tx.old.conn.now tx.new.conn.now result
-        (Steps (IsAdded contents_tree (Blob digest.now ∷ Blob octets.now ∷ []))) }
-    ensures inside { OnDone S.Store tx.old.conn.now tx.new.conn.now result IsInside }
-    ensures kept { OnRefused S.Store tx.old.conn.now tx.new.conn.now result KeepsCommit }
-    ensures fault { Always S.Store tx.old.conn.now tx.new.conn.now
-        (λ old new. IsTableIn contents_tree old.now.trees → HasNoContent digest.now old.now.trees
-        → IfErr result (AddFaults contents_table (content_values digest.now octets.now) old new)) }
-    ensures survives { CommitsNothing S.Store tx.old.conn.now tx.new.conn.now }
+    ensures { WritesTables S.Store tx.old.conn tx.new.conn result
+        (Steps (IsAdded contents_tree (Blob digest.now ∷ Blob octets.now ∷ [])))
+        (λ old new e. IsTableIn contents_tree old.now.trees → HasNoContent digest.now old.now.trees
+        → AddFaults contents_table (content_values digest.now octets.now) old new e) }
 {
     tx.execute(
         "INSERT INTO contents (digest, octets) VALUES (?1, ?2)",
@@ -114,14 +98,10 @@ pub(crate) fn remove_unnamed<S: Alter>(
     tx: &mut Transaction<'_, S>,
     digest: &[u8],
 ) -> Result<(), Error>
-    ensures same_reference { tx.new.conn.ghost_name ≡ tx.old.conn.ghost_name }
-    ensures tidied { OnDone S.Store tx.old.conn.now tx.new.conn.now result
+    ensures { WritesTables S.Store tx.old.conn tx.new.conn result
         (λ old new. old.now.schema ≡ store_schema → IsDatabase old.now
-        → IsTableIn contents_tree old.now.trees → IsTidied digest.now old new) }
-    ensures inside { OnDone S.Store tx.old.conn.now tx.new.conn.now result IsInside }
-    ensures kept { Always S.Store tx.old.conn.now tx.new.conn.now KeepsCommit }
-    ensures fault { IfRefused S.Store tx.old.conn.now tx.new.conn.now result WriteFaults }
-    ensures survives { CommitsNothing S.Store tx.old.conn.now tx.new.conn.now }
+        → IsTableIn contents_tree old.now.trees → IsTidied digest.now old new)
+        WriteFaults }
 {
     match tx.execute("DELETE FROM contents WHERE digest = ?1", params![digest]) {
         Ok(_) => Ok(()),

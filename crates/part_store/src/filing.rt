@@ -15,8 +15,9 @@ ghost use Rattle.part_store.specs.Causes.{HasNoRoom, LacksRoom};
 ghost use Rattle.part_store.specs.declared.error.StoreError.TheVariants.{Database};
 ghost use Rattle.part_store.specs.Additions.{HasDraft, Stocks, IsNext, Files};
 ghost use Rattle.part_store.specs.Filing.{IsOther};
-ghost use Rattle.part_store.specs.Calls.{Always, CommitsNothing, IfDone, IfRefused, OnDone};
-ghost use Rattle.part_store.specs.Inside.{KeepsStored, KeepsTables, StaysInside};
+ghost use Rattle.part_store.specs.Calls.{IfDone, IfRefused, OnDone};
+ghost use Rattle.part_store.specs.Inside.{StaysInside};
+ghost use Rattle.part_store.specs.Private.{KeepsInside};
 
 use crate::entry::{Kind, NewEntry};
 use crate::{contents, entries};
@@ -45,7 +46,6 @@ fn stock<S: Alter>(
     octets: &[u8],
     is_there: bool,
 ) -> Result<bool, Error>
-    ensures same_reference { tx.new.conn.ghost_name ≡ tx.old.conn.ghost_name }
     ensures stocked { IfDone S.Store tx.old.conn.now tx.new.conn.now result
         (λ done old new. done ≡ true → (before : _) → Stands old.now before
         → (is_there ≡ true → HasContent (old.now.trees contents_tree) digest.now octets.now)
@@ -53,15 +53,13 @@ fn stock<S: Alter>(
     ensures other { IfDone S.Store tx.old.conn.now tx.new.conn.now result
         (λ done old _. done ≡ false → (before : _) → Stands old.now before
         → IsOther old.now.trees digest.now octets.now) }
-    ensures schema { OnDone S.Store tx.old.conn.now tx.new.conn.now result KeepsTables }
-    ensures kept { Always S.Store tx.old.conn.now tx.new.conn.now KeepsStored }
     ensures inside { OnDone S.Store tx.old.conn.now tx.new.conn.now result StaysInside }
     ensures cause { IfRefused S.Store tx.old.conn.now tx.new.conn.now result
         (λ old new e. refusal_of e ≡ Database → IsTrue old.in_transaction → (before : _)
         → Stands old.now before
         → HasFailed old new
         ⊎ HasNoRoom contents_table (content_values digest.now octets.now) old.now.trees) }
-    ensures survives { CommitsNothing S.Store tx.old.conn.now tx.new.conn.now }
+    ensures within { KeepsInside S.Store tx.old.conn tx.new.conn result }
 {
     if is_there {
         return Ok(true);
@@ -99,7 +97,6 @@ pub(crate) fn file_entry<S: Alter>(
     is_there: bool,
 ) -> Result<bool, Error>
     requires { digest.now ≡ sha256 entry.now.octets.now }
-    ensures same_reference { tx.new.conn.ghost_name ≡ tx.old.conn.ghost_name }
     ensures filed { IfDone S.Store tx.old.conn.now tx.new.conn.now result
         (λ done old new. done ≡ true → (before : _) → Stands old.now before
         → IsNext before (entry_of user.now number (draft_of entry.now))
@@ -111,8 +108,6 @@ pub(crate) fn file_entry<S: Alter>(
         → IsOther old.now.trees (sha256 entry.now.octets.now) entry.now.octets.now) }
     ensures inside { IfDone S.Store tx.old.conn.now tx.new.conn.now result
         (λ done _ new. done ≡ true → IsTrue new.in_transaction) }
-    ensures schema { OnDone S.Store tx.old.conn.now tx.new.conn.now result KeepsTables }
-    ensures kept { Always S.Store tx.old.conn.now tx.new.conn.now KeepsStored }
     ensures cause { IfRefused S.Store tx.old.conn.now tx.new.conn.now result
         (λ old new e. refusal_of e ≡ Database → IsTrue old.in_transaction → (before : _)
         → Stands old.now before → IsNext before (entry_of user.now number (draft_of entry.now))
@@ -120,7 +115,7 @@ pub(crate) fn file_entry<S: Alter>(
         → HasFailed old new
         ⊎ LacksRoom (entry_of user.now number (draft_of entry.now))
         (sha256 entry.now.octets.now) old.now.trees) }
-    ensures survives { CommitsNothing S.Store tx.old.conn.now tx.new.conn.now }
+    ensures within { KeepsInside S.Store tx.old.conn tx.new.conn result }
 {
     if !stock(tx, digest, entry.octets, is_there)? {
         return Ok(false);

@@ -5,17 +5,16 @@
 ghost use Rattle.std.specs.Prelude.{◌≡◌, ◌⊎◌, ◌≤◌, ℕ, pos, List, length, map, IfOk, IfErr};
 ghost use Rattle.sqlite_value.specs.declared.value.Value.TheVariants.{Int};
 ghost use Rattle.sqlite_value.specs.Order.{column};
-ghost use Rattle.part_store.specs.Access.{InTransaction};
 ghost use Rattle.part_store.specs.Tables.{contents_tree};
 ghost use Rattle.part_store.specs.Entries.{entries_of, entries_since, listing_of};
 ghost use Rattle.part_store.specs.Standing.{HasContent, Stands, kind_number, listed};
 ghost use Rattle.part_store.specs.Readings.{IsParts, Shows, IsReadable};
-ghost use Rattle.part_store.specs.Inside.{Stays, KeepsStored};
 ghost use Rattle.part_store.specs.declared.entry.Kind.{Kind};
 ghost use Rattle.octets.specs.Limits.{max_entry_number};
 ghost use Rattle.part_store.specs.Refusals.{refusal_of, OnlyWhenFailed};
 ghost use Rattle.part_store.specs.declared.error.StoreError.TheVariants.{Memory, Database};
-ghost use Rattle.part_store.specs.Calls.{Always, CommitsNothing, IfDone, IfRefused, OnDone, Tells};
+ghost use Rattle.part_store.specs.Calls.{IfDone, IfRefused, Tells};
+ghost use Rattle.part_store.specs.Private.{ReadsInside, WorksInside};
 
 use crate::entry::{EntryRow, Kind};
 use crate::error::StoreError;
@@ -62,16 +61,13 @@ fn kind_of(row: &Row) -> Result<Kind, Error>
 
 /// The number of bytes under a digest that an entry names.
 fn size_of<S: Alter>(tx: &mut Transaction<'_, S>, digest: &[u8]) -> Result<u64, Error>
-    ensures same_reference { tx.new.conn.ghost_name ≡ tx.old.conn.ghost_name }
     ensures answer { IfDone S.Store tx.old.conn.now tx.new.conn.now result
         (λ size old _. (before : _) → Stands old.now before → (octets : List ℕ)
         → HasContent (old.now.trees contents_tree) digest.now octets → size ≡ length octets) }
-    ensures same { OnDone S.Store tx.old.conn.now tx.new.conn.now result Stays }
-    ensures kept { Always S.Store tx.old.conn.now tx.new.conn.now KeepsStored }
     ensures cause { IfRefused S.Store tx.old.conn.now tx.new.conn.now result
         (λ old new e. (octets : List ℕ) → HasContent (old.now.trees contents_tree) digest.now octets
         → OnlyWhenFailed old new (refusal_of e)) }
-    ensures survives { CommitsNothing S.Store tx.old.conn.now tx.new.conn.now }
+    ensures within { ReadsInside S.Store tx.old.conn tx.new.conn result }
 {
     match contents::size(tx, digest)? {
         Some(row) => row.get(0),
@@ -81,16 +77,13 @@ fn size_of<S: Alter>(tx: &mut Transaction<'_, S>, digest: &[u8]) -> Result<u64, 
 
 /// The entry that a row of the answer to a listing shows.
 fn read_row<S: Alter>(tx: &mut Transaction<'_, S>, row: &Row) -> Result<EntryRow, Error>
-    ensures same_reference { tx.new.conn.ghost_name ≡ tx.old.conn.ghost_name }
     ensures answer { IfDone S.Store tx.old.conn.now tx.new.conn.now result
         (λ entry old _. (before : _) → Stands old.now before → (x : _)
         → Shows old.now.trees row.now x → listed entry ≡ listing_of x) }
-    ensures same { OnDone S.Store tx.old.conn.now tx.new.conn.now result Stays }
-    ensures kept { Always S.Store tx.old.conn.now tx.new.conn.now KeepsStored }
     ensures cause { IfRefused S.Store tx.old.conn.now tx.new.conn.now result
         (λ old new e. (x : _) → Shows old.now.trees row.now x → x.number ≤ max_entry_number
         → OnlyWhenFailed old new (refusal_of e)) }
-    ensures survives { CommitsNothing S.Store tx.old.conn.now tx.new.conn.now }
+    ensures within { ReadsInside S.Store tx.old.conn tx.new.conn result }
 {
     let Parts {
         number,
@@ -116,12 +109,11 @@ pub(crate) fn list_all<S: Alter>(
     tx: &mut Transaction<'_, S>,
     user: &str,
 ) -> Result<Vec<EntryRow>, StoreError>
-    ensures same_reference { tx.new.conn.ghost_name ≡ tx.old.conn.ghost_name }
     ensures answer { Tells S.Store tx.old.conn.now tx.new.conn.now result
         (λ before rows. map listed rows.items ≡ map listing_of (entries_of user.now before)) }
     ensures refused { IfErr result (λ e. (e ≡ Memory) ⊎ (e ≡ Database)) }
     ensures cause { IfRefused S.Store tx.old.conn.now tx.new.conn.now result OnlyWhenFailed }
-    ensures within { InTransaction S.Store tx.old.conn.now tx.new.conn.now result }
+    ensures within { WorksInside S.Store tx.old.conn tx.new.conn result }
 {
     list_since(tx, user, 0)
 }
@@ -132,13 +124,12 @@ pub(crate) fn list_since<S: Alter>(
     user: &str,
     number: u32,
 ) -> Result<Vec<EntryRow>, StoreError>
-    ensures same_reference { tx.new.conn.ghost_name ≡ tx.old.conn.ghost_name }
     ensures answer { Tells S.Store tx.old.conn.now tx.new.conn.now result
         (λ before rows. map listed rows.items
         ≡ map listing_of (entries_since user.now number before)) }
     ensures refused { IfErr result (λ e. (e ≡ Memory) ⊎ (e ≡ Database)) }
     ensures cause { IfRefused S.Store tx.old.conn.now tx.new.conn.now result OnlyWhenFailed }
-    ensures within { InTransaction S.Store tx.old.conn.now tx.new.conn.now result }
+    ensures within { WorksInside S.Store tx.old.conn tx.new.conn result }
 {
     let rows = entries::list(tx, user, number)?;
     let mut listed = Vec::new(*rows.allocator());

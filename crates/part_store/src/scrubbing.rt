@@ -2,17 +2,17 @@
 //!
 //! The digests are listed first, so one content at a time is in memory. Only if some are damaged, the entries are read,
 //! those of one user at a time.
-ghost use Rattle.std.specs.Prelude.{◌≡◌, ◌⊎◌, ◌∷◌, ◌++◌, [], map, IfOk, IfErr, OnOk};
+ghost use Rattle.std.specs.Prelude.{◌≡◌, ◌⊎◌, ◌∷◌, ◌++◌, [], map, IfErr, OnOk};
 ghost use Rattle.std.specs.List.{AllByRecursion};
-ghost use Rattle.part_store.specs.Access.{InTransaction};
 ghost use Rattle.part_store.specs.Standing.{Stands};
-ghost use Rattle.part_store.specs.Inside.{Stays, KeepsStored};
+ghost use Rattle.part_store.specs.Inside.{Stays};
 ghost use Rattle.part_store.specs.Readings.{IsReadable};
 ghost use Rattle.part_store.specs.Scrubbing.{AreDamagedOf, IsScrubbed, OnlyWhenUncounted, damaged_line};
 ghost use Rattle.part_store.specs.Scanning.{AddsDamaged, AreDamagedDigests, ShowsContent, damaged_in, is_one_of, lines_shown, texts_of};
 ghost use Rattle.part_store.specs.Refusals.{OnlyWhenFailed, OnlyWhenUnnamed};
 ghost use Rattle.part_store.specs.declared.error.StoreError.TheVariants.{Memory, Database};
-ghost use Rattle.part_store.specs.Calls.{Always, CommitsNothing, IfDone, IfRefused, OnDone};
+ghost use Rattle.part_store.specs.Calls.{IfDone, IfRefused, OnDone};
+ghost use Rattle.part_store.specs.Private.{KeepsInside, ReadsInside, WorksInside};
 
 use crate::all_users::list_users;
 use crate::error::StoreError;
@@ -46,12 +46,11 @@ pub struct DamagedEntry {
 
 /// Compares every content with its digest, and lists the entries that refer to a damaged one.
 pub(crate) fn scrub_all<S: Alter>(tx: &mut Transaction<'_, S>) -> Result<Scrubbed, StoreError>
-    ensures same_reference { tx.new.conn.ghost_name ≡ tx.old.conn.ghost_name }
     ensures answer { IfDone S.Store tx.old.conn.now tx.new.conn.now result
         (λ x old _. (before : _) → Stands old.now before → IsScrubbed old.now.trees before x) }
     ensures refused { IfErr result (λ e. (e ≡ Memory) ⊎ (e ≡ Database)) }
     ensures cause { IfRefused S.Store tx.old.conn.now tx.new.conn.now result OnlyWhenUncounted }
-    ensures within { InTransaction S.Store tx.old.conn.now tx.new.conn.now result }
+    ensures within { WorksInside S.Store tx.old.conn tx.new.conn result }
 {
     let rows = contents::list(tx)?;
     let contents = total_of(&rows)?;
@@ -70,18 +69,16 @@ fn damaged_among<S: Alter>(
     tx: &mut Transaction<'_, S>,
     rows: &Vec<Row>,
 ) -> Result<Vec<Vec<u8>>, StoreError>
-    ensures same_reference { tx.new.conn.ghost_name ≡ tx.old.conn.ghost_name }
     ensures answer { IfDone S.Store tx.old.conn.now tx.new.conn.now result
         (λ digests old _. (before : _) → Stands old.now before
         → AllByRecursion (ShowsContent old.now.trees) rows.now.items
         → texts_of digests.items ≡ damaged_in old.now.trees rows.now.items) }
     ensures same { OnDone S.Store tx.old.conn.now tx.new.conn.now result Stays }
-    ensures kept { Always S.Store tx.old.conn.now tx.new.conn.now KeepsStored }
     ensures refused { IfErr result (λ e. (e ≡ Memory) ⊎ (e ≡ Database)) }
     ensures cause { IfRefused S.Store tx.old.conn.now tx.new.conn.now result
         (λ old new e. AllByRecursion (ShowsContent old.now.trees) rows.now.items
         → OnlyWhenFailed old new e) }
-    ensures survives { CommitsNothing S.Store tx.old.conn.now tx.new.conn.now }
+    ensures within { KeepsInside S.Store tx.old.conn tx.new.conn result }
 {
     let mut digests = Vec::new(*rows.allocator());
     for row in rows {
@@ -96,17 +93,14 @@ fn note_damaged<S: Alter>(
     row: &Row,
     digests: &mut Vec<Vec<u8>>,
 ) -> Result<(), StoreError>
-    ensures same_reference { tx.new.conn.ghost_name ≡ tx.old.conn.ghost_name }
     ensures answer { OnDone S.Store tx.old.conn.now tx.new.conn.now result
         (λ old _. (before : _) → Stands old.now before → ShowsContent old.now.trees row.now
         → texts_of digests.new.items
         ≡ texts_of digests.old.items ++ damaged_in old.now.trees (row.now ∷ [])) }
-    ensures same { OnDone S.Store tx.old.conn.now tx.new.conn.now result Stays }
-    ensures kept { Always S.Store tx.old.conn.now tx.new.conn.now KeepsStored }
     ensures refused { IfErr result (λ e. (e ≡ Memory) ⊎ (e ≡ Database)) }
     ensures cause { IfRefused S.Store tx.old.conn.now tx.new.conn.now result
         (λ old new e. ShowsContent old.now.trees row.now → OnlyWhenFailed old new e) }
-    ensures survives { CommitsNothing S.Store tx.old.conn.now tx.new.conn.now }
+    ensures within { ReadsInside S.Store tx.old.conn tx.new.conn result }
 {
     let digest: Vec<u8> = row.get(0)?;
     let octets = content_of(tx, &digest)?;
@@ -123,15 +117,13 @@ fn entries_naming<S: Alter>(
     tx: &mut Transaction<'_, S>,
     digests: &Vec<Vec<u8>>,
 ) -> Result<Vec<DamagedEntry>, StoreError>
-    ensures same_reference { tx.new.conn.ghost_name ≡ tx.old.conn.ghost_name }
     ensures answer { IfDone S.Store tx.old.conn.now tx.new.conn.now result
         (λ entries old _. (before : _) → Stands old.now before
         → AreDamagedDigests old.now.trees digests.now.items
         → AreDamagedOf old.now.trees before (map damaged_line entries.items)) }
-    ensures kept { Always S.Store tx.old.conn.now tx.new.conn.now KeepsStored }
     ensures refused { IfErr result (λ e. (e ≡ Memory) ⊎ (e ≡ Database)) }
     ensures cause { IfRefused S.Store tx.old.conn.now tx.new.conn.now result OnlyWhenUnnamed }
-    ensures survives { CommitsNothing S.Store tx.old.conn.now tx.new.conn.now }
+    ensures within { KeepsInside S.Store tx.old.conn tx.new.conn result }
 {
     let mut found = Vec::new(*digests.allocator());
     if digests.is_empty() {
@@ -151,17 +143,14 @@ fn add_naming<S: Alter>(
     digests: &Vec<Vec<u8>>,
     found: &mut Vec<DamagedEntry>,
 ) -> Result<(), StoreError>
-    ensures same_reference { tx.new.conn.ghost_name ≡ tx.old.conn.ghost_name }
     ensures answer { OnDone S.Store tx.old.conn.now tx.new.conn.now result
         (λ old _. (before : _) → Stands old.now before
         → AreDamagedDigests old.now.trees digests.now.items
         → AddsDamaged old.now.trees before user.now (map damaged_line found.old.items)
         (map damaged_line found.new.items)) }
-    ensures same { OnDone S.Store tx.old.conn.now tx.new.conn.now result Stays }
-    ensures kept { Always S.Store tx.old.conn.now tx.new.conn.now KeepsStored }
     ensures refused { IfErr result (λ e. (e ≡ Memory) ⊎ (e ≡ Database)) }
     ensures cause { IfRefused S.Store tx.old.conn.now tx.new.conn.now result OnlyWhenFailed }
-    ensures survives { CommitsNothing S.Store tx.old.conn.now tx.new.conn.now }
+    ensures within { ReadsInside S.Store tx.old.conn tx.new.conn result }
 {
     let rows = entries::list(tx, user, 0)?;
     add_rows(user, &rows, digests, found)

@@ -11,16 +11,16 @@
 ghost use Rattle.std.specs.Prelude.{◌≡◌, ◌≢◌, ◌⊎◌, ◌↔◌, ◌+◌, ◌^◌, ◌<◌, ◌≤◌, length, map, true, false, IsTrue, option_map, MatchOption, Err, IfOk, IfErr, IsErrAnd, None, OnOk, OnErr, IfSome};
 ghost use Rattle.sha2.specs.Sha256.{sha256};
 ghost use Rattle.sqlite.specs.Held.{state};
-ghost use Rattle.sqlite.specs.State.{HasCleanDisk, KeepsCommit};
+ghost use Rattle.sqlite.specs.State.{HasCleanDisk};
 ghost use Rattle.part_store.specs.Tables.{no_schema, store_schema, contents_tree, users_tree};
 ghost use Rattle.part_store.specs.Entries.{AreProgramsOf, entries_of, entries_since, listing_of, no_entries, with_entries, with_program, with_programs, without_entry};
-ghost use Rattle.part_store.specs.Access.{AddsEntries, InTransaction, IsFailure, IsFailureOrAbsence, IsFailureOrObstacle, IsRefusedAs, MayMakeOpen, ReadsStore, WritesStore};
+ghost use Rattle.part_store.specs.Access.{AddsEntries, IsFailure, IsFailureOrAbsence, IsFailureOrObstacle, IsRefusedAs, MayMakeOpen, ReadsStore, WritesStore};
 ghost use Rattle.part_store.specs.Blaming.{AsRefusal, AsRefusalInside};
-ghost use Rattle.part_store.specs.Inside.{Brings, Stays, IsInside, KeepsStored, StaysInside};
-ghost use Rattle.part_store.specs.Standing.{AddsVerified, HaveDigests, IsStored, Makes, MayMake, Stands, HasContent, IsEntryAt, HasNone, draft_of, listed, pair_of};
+ghost use Rattle.part_store.specs.Inside.{Brings};
+ghost use Rattle.part_store.specs.Standing.{AddsVerified, HaveDigests, IsStored, MayMake, Stands, HasContent, IsEntryAt, HasNone, draft_of, listed, pair_of};
 ghost use Rattle.part_store.specs.Readings.{NamesDigest};
 ghost use Rattle.part_store.specs.Refusals.{refusal_of, HasFailed, OnlyWhenFailed, OnlyWhenFailedOrNoEntryRoom, OnlyWhenUnnamed, OnlyWhenFailedOr, OnlyWhenFailedOrNoLineRoom, OnlyWhenFailedOrNoProgramRoom, OnlyWhenFailedOrNoUserRoom};
-ghost use Rattle.part_store.specs.declared.error.StoreError.TheVariants.{Memory, NoSuchEntry, NumberFull, Collision, Database};
+ghost use Rattle.part_store.specs.declared.error.StoreError.TheVariants.{Memory, NoSuchEntry, Database};
 ghost use Rattle.part_store.specs.Crashes.{KeepsState};
 ghost use Rattle.part_store.specs.Looking.{are_tables};
 ghost use Rattle.part_store.specs.Totals.{IsTotalOf, octets_of};
@@ -37,7 +37,8 @@ ghost use Rattle.sqlite.specs.WalFiles.{image_at};
 ghost use Rattle.part_store.specs.Sharing.{SharesContents, first_of};
 ghost use Rattle.part_store.specs.Verifying.{IsAltered, IsVerified, Keeps, Lacks, Names, OnlyWhenFailedOrAltered};
 ghost use Rattle.part_store.specs.Causes.{content_altered};
-ghost use Rattle.part_store.specs.Calls.{Always, CommitsNothing, DoneWhere, IfDone, IfRefused, MayCommit, OnDone, OnRefused, RefusedWhere, Tells, WasOpen};
+ghost use Rattle.part_store.specs.Calls.{Always, DoneWhere, IfDone, IfRefused, MayCommit, OnDone, OnRefused, RefusedWhere, Tells};
+ghost use Rattle.part_store.specs.Private.{MakesTables, ReadsInside, WorksInside};
 
 mod connections;
 
@@ -115,13 +116,8 @@ fn is_bare(schema: &Schema) -> bool
 }
 
 fn create_tables<S: Alter>(tx: &mut Transaction<'_, S>) -> Result<(), Error>
-    ensures same_reference { tx.new.conn.ghost_name ≡ tx.old.conn.ghost_name }
-    ensures step { OnDone S.Store tx.old.conn.now tx.new.conn.now result
+    ensures { MakesTables S.Store tx.old.conn tx.new.conn result
         (λ old new. old.now.schema ≡ no_schema → Stands new.now no_entries) }
-    ensures open { OnDone S.Store tx.old.conn.now tx.new.conn.now result WasOpen }
-    ensures inside { OnDone S.Store tx.old.conn.now tx.new.conn.now result IsInside }
-    ensures kept { Always S.Store tx.old.conn.now tx.new.conn.now KeepsCommit }
-    ensures survives { CommitsNothing S.Store tx.old.conn.now tx.new.conn.now }
 {
     tables::create_users(tx)?;
     tables::create_contents(tx)?;
@@ -162,7 +158,6 @@ fn digest_of<S: Alter>(
     user: &str,
     number: u32,
 ) -> Result<Option<Vec<u8>>, Error>
-    ensures same_reference { tx.new.conn.ghost_name ≡ tx.old.conn.ghost_name }
     ensures answer { IfDone S.Store tx.old.conn.now tx.new.conn.now result
         (λ found old _. (before : _) → Stands old.now before
         → MatchOption found (HasNone before user.now number)
@@ -172,10 +167,8 @@ fn digest_of<S: Alter>(
         → IfSome found (λ digest. Names old.now.trees user.now number digest.items)) }
     ensures unnamed { IfRefused S.Store tx.old.conn.now tx.new.conn.now result
         (AsRefusal (OnlyWhenFailedOrAltered user.now number)) }
-    ensures same { OnDone S.Store tx.old.conn.now tx.new.conn.now result Stays }
-    ensures inside { OnDone S.Store tx.old.conn.now tx.new.conn.now result StaysInside }
     ensures cause { IfRefused S.Store tx.old.conn.now tx.new.conn.now result (AsRefusal OnlyWhenFailed) }
-    ensures within { InTransaction S.Store tx.old.conn.now tx.new.conn.now result }
+    ensures within { ReadsInside S.Store tx.old.conn tx.new.conn result }
 {
     match entries::find(tx, user, number)? {
         Some(row) => Ok(Some(row.get(0)?)),
@@ -188,7 +181,6 @@ pub(crate) fn content_of<S: Alter>(
     tx: &mut Transaction<'_, S>,
     digest: &[u8],
 ) -> Result<Vec<u8>, Error>
-    ensures same_reference { tx.new.conn.ghost_name ≡ tx.old.conn.ghost_name }
     ensures answer { IfDone S.Store tx.old.conn.now tx.new.conn.now result
         (λ octets old _. (before : _) → Stands old.now before
         → HasContent (old.now.trees contents_tree) digest.now octets.items) }
@@ -201,9 +193,7 @@ pub(crate) fn content_of<S: Alter>(
     ensures cause { IfRefused S.Store tx.old.conn.now tx.new.conn.now result
         (λ old new e. (octets : _) → HasContent (old.now.trees contents_tree) digest.now octets
         → OnlyWhenFailed old new (refusal_of e)) }
-    ensures same { OnDone S.Store tx.old.conn.now tx.new.conn.now result Stays }
-    ensures kept { Always S.Store tx.old.conn.now tx.new.conn.now KeepsStored }
-    ensures survives { CommitsNothing S.Store tx.old.conn.now tx.new.conn.now }
+    ensures within { ReadsInside S.Store tx.old.conn tx.new.conn result }
 {
     match contents::find(tx, digest)? {
         Some(row) => row.get(0),
@@ -230,7 +220,6 @@ fn read_bytes<S: Alter>(
     user: &str,
     number: u32,
 ) -> Result<Option<Vec<u8>>, Error>
-    ensures same_reference { tx.new.conn.ghost_name ≡ tx.old.conn.ghost_name }
     ensures answer { Tells S.Store tx.old.conn.now tx.new.conn.now result
         (λ before found.
         MatchOption found (HasNone before user.now number)
@@ -240,7 +229,7 @@ fn read_bytes<S: Alter>(
         → IfSome found (λ octets. IsVerified old.now.trees user.now number octets.items)) }
     ensures cause { IfRefused S.Store tx.old.conn.now tx.new.conn.now result
         (AsRefusal (OnlyWhenFailedOrAltered user.now number)) }
-    ensures within { InTransaction S.Store tx.old.conn.now tx.new.conn.now result }
+    ensures within { WorksInside S.Store tx.old.conn tx.new.conn result }
 {
     let Some(digest) = digest_of(tx, user, number)? else {
         return Ok(None);
@@ -251,7 +240,6 @@ fn read_bytes<S: Alter>(
 
 /// Takes a user's entry out. Returns false if the user has no such entry.
 fn take_entry<S: Alter>(tx: &mut Transaction<'_, S>, user: &str, number: u32) -> Result<bool, Error>
-    ensures same_reference { tx.new.conn.ghost_name ≡ tx.old.conn.ghost_name }
     ensures taken { IfDone S.Store tx.old.conn.now tx.new.conn.now result
         (λ done old new. done ≡ true → Brings (without_entry user.now number) old new) }
     ensures there { IfDone S.Store tx.old.conn.now tx.new.conn.now result
@@ -264,7 +252,7 @@ fn take_entry<S: Alter>(tx: &mut Transaction<'_, S>, user: &str, number: u32) ->
         (λ done old new. done ≡ true → old.now.schema ≡ store_schema → IsTrue new.in_transaction) }
     ensures cause { IfRefused S.Store tx.old.conn.now tx.new.conn.now result
         (AsRefusalInside OnlyWhenFailed) }
-    ensures within { InTransaction S.Store tx.old.conn.now tx.new.conn.now result }
+    ensures within { WorksInside S.Store tx.old.conn tx.new.conn result }
 {
     let Some(digest) = digest_of(tx, user, number)? else {
         return Ok(false);

@@ -21,7 +21,7 @@ pub returns-then-not-branch-clause-other : goal.returns-then-not-branch-clause-o
 returns-then-not-branch-clause-other g c clean _ =
     let old = state g.S.Store c.args.tx.now.conn.now in
     let mid = state g.S.Store c.loop-entry.tx.conn.now in
-    let early : HasCleanDisk mid = omega (arith, c.file_entry.ensures.survives.clean) in
+    let early : HasCleanDisk mid = omega (arith, c.file_entry.ensures.within.survives.clean) in
     let entries = c.args.entries.now in
     let place = c.loop-entry.entry-index in
     let failed : c.in_ok-file_entry.field-0 ≡ false = search rules in
@@ -42,12 +42,12 @@ loop-entry-preserved g c =
     let long : length drafts ≡ place = length-map (take place entries) draft_of ∙ omega (arith, length-take place entries, c.loop-entry-test.true) in
     let done : c.in_ok-file_entry.field-0 ≡ true = search rules in
     record {
-      same_reference = c.file_entry.ensures.same_reference ∙ c.loop-entry.invariant.same_reference;
+      same_reference = c.file_entry.ensures.within.same_reference ∙ c.loop-entry.invariant.same_reference;
       noted = known.noted;
       number = omega (arith, c.loop-entry.invariant.number);
       so_far = one_more c.args.user.now c.args.last (length entries) (c.loop-entry.number + 1) drafts (map draft_of (take (place + 1) entries)) (draft_of (entry_at entries place)) c.digest_at-is_there.result.1 old mid new (λ is. earlier_draft entries place c.loop-entry-test.true (known.earlier is))
           (omega (arith, long, c.loop-entry-test.true)) (omega (arith, long, c.loop-entry.invariant.number)) (drafts_more entries place c.loop-entry-test.true) c.loop-entry.invariant.so_far
-          c.file_entry.ensures.survives (λ clean. c.in_ok-file_entry.ensures.filed clean done) (λ clean. c.in_ok-file_entry.ensures.inside clean done) (λ clean. c.in_ok-file_entry.ensures.schema clean) c.file_entry.ensures.kept;
+          c.file_entry.ensures.within.survives (λ clean. c.in_ok-file_entry.ensures.filed clean done) (λ clean. c.in_ok-file_entry.ensures.inside clean done) (λ clean. c.in_ok-file_entry.ensures.within.schema clean) c.file_entry.ensures.within.kept;
     }
 
 pub returns-in_err-file_entry-clause-cause : goal.returns-in_err-file_entry-clause-cause
@@ -65,4 +65,4 @@ returns-in_err-file_entry-clause-cause g c clean =
     passed c.from_residual.result _ _ c.from_residual.ensures.1
     (filing_refused c.args.user.now c.args.last (length entries) (c.loop-entry.number + 1) drafts (map draft_of (drop (place + 1) entries)) (map draft_of entries) (draft_of (entry_at entries place)) c.digest_at-is_there.result.1 old mid new _ (λ is. earlier_draft entries place c.loop-entry-test.true (known.earlier is))
     (omega (arith, long, c.loop-entry-test.true)) (omega (arith, long, c.loop-entry.invariant.number)) (drafts_split entries place c.loop-entry-test.true) (sym (length-map entries draft_of))
-    c.loop-entry.invariant.so_far c.file_entry.ensures.survives clean (c.in_err-file_entry.ensures.cause clean))
+    c.loop-entry.invariant.so_far c.file_entry.ensures.within.survives clean (c.in_err-file_entry.ensures.cause clean))

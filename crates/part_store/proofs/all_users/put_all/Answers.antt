@@ -16,7 +16,7 @@ loop-row-preserved g c =
     let done = map line_of (take c.loop-row.row-index c.args.rows.now) in
     let line = line_of c.row-item.result in
     record {
-      same_reference = c.put_user.ensures.same_reference ∙ c.loop-row.invariant.same_reference;
+      same_reference = c.put_user.ensures.within.same_reference ∙ c.loop-row.invariant.same_reference;
       so_far = subst (λ lines. Replacing with_users lines old new) (mapped_more line_of c.args.rows.now c.loop-row.row-index c.row-item.result c.loop-row-test.true c.row-item.is)
           (replaced_more with_users done line old mid new c.loop-row.invariant.so_far c.put_user.ensures.within.survives (users_push done line) c.in_ok-put_user.ensures.step (λ clean _ _. c.in_ok-put_user.ensures.inside clean)
           c.in_ok-put_user.ensures.schema c.in_ok-put_user.ensures.within.was_open c.put_user.ensures.within.stays_closed c.put_user.ensures.within.kept c.in_ok-put_user.ensures.rowids);

@@ -1,6 +1,7 @@
-use Rattle.std.proofs.Common.{◌≡◌, inl, inr, true, rules, arith}
+use Rattle.std.proofs.Common.{◌≡◌, inl, inr, true, ◌∙◌, rules, arith}
 use Rattle.sqlite.specs.State.{HasCleanDisk}
 use Rattle.sqlite.specs.Held.{state}
+use Rattle.sqlite.proofs.StateLemmas.{survives_then}
 use Rattle.part_store.specs.Entries.{entry_of}
 use Rattle.part_store.specs.Standing.{draft_of}
 use Rattle.part_store.proofs.Filed.{files, files_kept}
@@ -19,11 +20,19 @@ returns-clause-filed g c clean _ before stands next there =
     let done : c.in_ok-stock.field-0 ≡ true = search rules in
     files old mid new (entry_of c.args.user.now c.args.number (draft_of c.args.entry.now)) _ before stands next (stocks done before stands there) adds
 
-pub returns-clause-kept : goal.returns-clause-kept
-returns-clause-kept g c clean =
+pub returns-clause-within : goal.returns-clause-within
+returns-clause-within g c =
+    let old = state g.S.Store c.args.tx.now.conn.now in
     let mid = state g.S.Store c.stock.new.tx.conn.now in
-    let early : HasCleanDisk mid = omega (arith, c.add.ensures.survives.clean) in
-    files_kept (state g.S.Store c.args.tx.now.conn.now) mid (state g.S.Store c.add.new.tx.conn.now) _ (c.in_ok-stock.ensures.kept early) (c.in_ok-stock.ensures.schema early) (c.in_ok-add.ensures.step clean)
+    let new = state g.S.Store c.add.new.tx.conn.now in
+    record {
+      same_reference = c.add.ensures.same_reference ∙ c.stock.ensures.within.same_reference;
+      schema = search rules;
+      kept = λ clean.
+          let early : HasCleanDisk mid = omega (arith, clean, c.add.ensures.survives.clean) in
+          files_kept old mid new _ (c.stock.ensures.within.kept early) (c.in_ok-stock.ensures.within.schema early) (c.in_ok-add.ensures.step clean);
+      survives = survives_then old mid new (λ _. ⊥) (λ _. ⊥) (λ _. ⊥) (λ _ _ h. h) (λ _ _ h. h) c.stock.ensures.within.survives c.add.ensures.survives;
+    }
 
 pub returns-in_err-stock-clause-cause : goal.returns-in_err-stock-clause-cause
 returns-in_err-stock-clause-cause g c clean =
@@ -41,4 +50,4 @@ returns-in_err-add-clause-cause g c clean =
     let done : c.in_ok-stock.field-0 ≡ true = search rules in
     let x = entry_of c.args.user.now c.args.number (draft_of c.args.entry.now) in
     passed c.from_residual-in_err-add.result _ _ c.from_residual-in_err-add.ensures.1 (λ is inside before stands next there.
-    entry_unplaced old mid new x _ _ before stands next (stocks done before stands there) (c.in_ok-stock.ensures.inside early stands.schema inside) c.stock.ensures.survives c.add.ensures.survives clean fault is)
+    entry_unplaced old mid new x _ _ before stands next (stocks done before stands there) (c.in_ok-stock.ensures.inside early stands.schema inside) c.stock.ensures.within.survives c.add.ensures.survives clean fault is)

@@ -30,7 +30,7 @@ returns-in_ok-add-in-None-clause-stocked g c clean is before stands _ =
 
 pub returns-in_err-row-clause-cause : goal.returns-in_err-row-clause-cause
 returns-in_err-row-clause-cause g c clean =
-    passed c.from_residual.result _ _ c.from_residual.ensures.1 (λ is _ before stands. inl (c.in_err-row.ensures.asks.fault clean is stands.schema))
+    passed c.from_residual.result _ _ c.from_residual.ensures.1 (λ is _ before stands. inl (c.in_err-row.ensures.fault clean is stands.schema))
 
 pub returns-in-Some-clause-cause : goal.returns-in-Some-clause-cause
 returns-in-Some-clause-cause g c clean =
@@ -45,4 +45,4 @@ returns-in_err-add-in-None-clause-cause g c clean =
     let new = state g.S.Store c.add.new.tx.conn.now in
     let early : HasCleanDisk mid = omega (arith, clean, c.add.ensures.survives.clean) in
     passed c.from_residual-in_err-add-in-None.result _ _ c.from_residual-in_err-add-in-None.ensures.1
-    (content_unplaced old mid new c.args.digest.now c.args.octets.now _ (rw c.in-None.is at (c.in_ok-row.ensures.step early)) c.find.ensures.asks.survives c.add.ensures.survives clean (c.in_err-add-in-None.ensures.fault clean))
+    (content_unplaced old mid new c.args.digest.now c.args.octets.now _ (rw c.in-None.is at (c.in_ok-row.ensures.step early)) c.find.ensures.survives c.add.ensures.survives clean (c.in_err-add-in-None.ensures.fault clean))

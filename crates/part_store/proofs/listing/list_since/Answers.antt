@@ -13,9 +13,9 @@ loop-row-preserved g c =
     let new = state g.S.Store c.read_row.new.tx.conn.now in
     let rows = c.deref-row-items.result.now in
     record {
-      same_reference = c.read_row.ensures.same_reference ∙ c.loop-row.invariant.same_reference;
+      same_reference = c.read_row.ensures.within.same_reference ∙ c.loop-row.invariant.same_reference;
       so_far = one_read rows c.loop-row.row-index c.row-item.result c.loop-row.listed.items c.push.new.self.items c.in_ok-entry.entry old mid new c.loop-row-test.true c.row-item.is c.in_ok-push.ensures.items c.loop-row.invariant.so_far
-          c.read_row.ensures.survives c.in_ok-entry.ensures.same c.read_row.ensures.kept c.in_ok-entry.ensures.answer;
+          c.read_row.ensures.within.survives c.in_ok-entry.ensures.within.same c.read_row.ensures.within.kept c.in_ok-entry.ensures.answer;
     }
 
 pub returns-clause-answer : goal.returns-clause-answer
@@ -34,9 +34,9 @@ returns-in_err-entry-clause-cause g c clean =
     let mid = state g.S.Store c.loop-row.tx.conn.now in
     let new = state g.S.Store c.read_row.new.tx.conn.now in
     let rows = c.deref-row-items.result.now in
-    let early : HasCleanDisk mid = omega (arith, clean, c.read_row.ensures.survives.clean) in
+    let early : HasCleanDisk mid = omega (arith, clean, c.read_row.ensures.within.survives.clean) in
     let first : HasCleanDisk one = omega (arith, early, c.loop-row.invariant.so_far.survives.clean) in
     let reads = rw (sym c.deref-row-items.ensures.value) at (c.in_ok-rows.ensures.step first) in
     passed c.from_residual-in_err-entry.result _ _ c.from_residual-in_err-entry.ensures.1
-    (listing_blamed old one mid new c.args.user.now c.args.number rows c.loop-row.row-index c.row-item.result c.loop-row.listed.items _ reads c.list.ensures.asks.survives c.loop-row-test.true c.row-item.is
-    c.loop-row.invariant.so_far c.read_row.ensures.survives clean (c.in_err-entry.ensures.cause clean))
+    (listing_blamed old one mid new c.args.user.now c.args.number rows c.loop-row.row-index c.row-item.result c.loop-row.listed.items _ reads c.list.ensures.survives c.loop-row-test.true c.row-item.is
+    c.loop-row.invariant.so_far c.read_row.ensures.within.survives clean (c.in_err-entry.ensures.cause clean))

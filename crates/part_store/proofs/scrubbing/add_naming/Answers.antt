@@ -35,4 +35,4 @@ returns-clause-cause g c clean =
     (answer_shows old new user 0 rows (c.in_ok-rows.ensures.step clean) before stands))))) c.add_rows.ensures.cause
 
 pub returns-in_err-rows-clause-cause : goal.returns-in_err-rows-clause-cause
-returns-in_err-rows-clause-cause g c clean = passed c.from_residual.result _ _ c.from_residual.ensures.1 (λ is before stands. c.in_err-rows.ensures.asks.fault clean is stands.schema)
+returns-in_err-rows-clause-cause g c clean = passed c.from_residual.result _ _ c.from_residual.ensures.1 (λ is before stands. c.in_err-rows.ensures.fault clean is stands.schema)

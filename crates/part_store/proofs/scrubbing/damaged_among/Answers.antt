@@ -17,8 +17,8 @@ loop-row-preserved g c =
     let new = state g.S.Store c.note_damaged.new.tx.conn.now in
     let rows = c.deref-row-items.result.now in
     record {
-      same_reference = c.note_damaged.ensures.same_reference ∙ c.loop-row.invariant.same_reference;
-      so_far = scanned_more _ _ old mid new c.loop-row.invariant.so_far c.note_damaged.ensures.survives c.in_ok-note_damaged.ensures.same c.note_damaged.ensures.kept
+      same_reference = c.note_damaged.ensures.within.same_reference ∙ c.loop-row.invariant.same_reference;
+      so_far = scanned_more _ _ old mid new c.loop-row.invariant.so_far c.note_damaged.ensures.within.survives c.in_ok-note_damaged.ensures.within.same c.note_damaged.ensures.within.kept
           (λ clean before stands was shows. noted_more mid.now.trees rows c.loop-row.row-index c.row-item.result c.loop-row.digests.items c.note_damaged.new.digests.items c.loop-row-test.true c.row-item.is shows (was shows)
           (c.in_ok-note_damaged.ensures.answer clean before stands));
     }
@@ -37,7 +37,7 @@ returns-in_err-note_damaged-clause-cause g c clean =
     let new = state g.S.Store c.note_damaged.new.tx.conn.now in
     let rows = c.deref-row-items.result.now in
     passed c.from_residual.result _ _ c.from_residual.ensures.1 (λ shows.
-    scan_blamed _ old mid new _ c.loop-row.invariant.so_far c.note_damaged.ensures.survives clean (λ same.
+    scan_blamed _ old mid new _ c.loop-row.invariant.so_far c.note_damaged.ensures.within.survives clean (λ same.
     let shown = all_has (ShowsContent old.now.trees) rows c.row-item.result (subst (λ (rs : List Row). AllByRecursion (ShowsContent old.now.trees) rs) (sym c.deref-row-items.ensures.value) shows)
     (has_at rows c.loop-row.row-index c.row-item.result c.loop-row-test.true c.row-item.is) in
     c.in_err-note_damaged.ensures.cause clean (subst (λ t. ShowsContent t c.row-item.result) (sym same) shown)))

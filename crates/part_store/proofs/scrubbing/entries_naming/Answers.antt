@@ -14,8 +14,8 @@ loop-row-preserved g c =
     let new = state g.S.Store c.add_naming.new.tx.conn.now in
     let users = c.deref-row-items.result.now in
     record {
-      same_reference = c.add_naming.ensures.same_reference ∙ c.loop-row.invariant.same_reference;
-      so_far = scanned_more _ _ old mid new c.loop-row.invariant.so_far c.add_naming.ensures.survives c.in_ok-add_naming.ensures.same c.add_naming.ensures.kept
+      same_reference = c.add_naming.ensures.within.same_reference ∙ c.loop-row.invariant.same_reference;
+      so_far = scanned_more _ _ old mid new c.loop-row.invariant.so_far c.add_naming.ensures.within.survives c.in_ok-add_naming.ensures.within.same c.add_naming.ensures.within.kept
           (λ clean before stands was are up. user_more mid.now.trees before users c.loop-row.row-index c.row-item.result (map damaged_line c.loop-row.found.items) (map damaged_line c.add_naming.new.found.items) c.loop-row-test.true c.row-item.is up (was are up)
           (rw c.as_str.ensures.value at (c.in_ok-add_naming.ensures.answer clean before stands are)));
     }
@@ -27,7 +27,7 @@ returns-clause-answer g c clean before stands are =
     let new = state g.S.Store c.loop-row.tx.conn.now in
     let users = c.deref-row-items.result.now in
     let early : HasCleanDisk mid = omega (arith, c.loop-row.invariant.so_far.survives.clean) in
-    all_found old mid new users c.loop-row.row-index c.args.digests.now.items (map damaged_line c.loop-row.found.items) (c.in_ok-users.ensures.same early) (omega (arith, c.loop-row-test.false)) clean c.loop-row.invariant.so_far before stands
+    all_found old mid new users c.loop-row.row-index c.args.digests.now.items (map damaged_line c.loop-row.found.items) (c.in_ok-users.ensures.within.same early) (omega (arith, c.loop-row-test.false)) clean c.loop-row.invariant.so_far before stands
     (rw (sym c.deref-row-items.ensures.value) at (c.in_ok-users.ensures.answer early before stands)) are
 
 pub returns-in_err-add_naming-clause-cause : goal.returns-in_err-add_naming-clause-cause
@@ -36,7 +36,7 @@ returns-in_err-add_naming-clause-cause g c clean =
     let mid = state g.S.Store c.list_users.new.tx.conn.now in
     let now = state g.S.Store c.loop-row.tx.conn.now in
     let new = state g.S.Store c.add_naming.new.tx.conn.now in
-    let late : HasCleanDisk now = omega (arith, clean, c.add_naming.ensures.survives.clean) in
+    let late : HasCleanDisk now = omega (arith, clean, c.add_naming.ensures.within.survives.clean) in
     let early : HasCleanDisk mid = omega (arith, late, c.loop-row.invariant.so_far.survives.clean) in
     passed c.from_residual-in_err-add_naming.result _ _ c.from_residual-in_err-add_naming.ensures.1
-    (naming_blamed _ old mid now new _ c.list_users.ensures.within.survives (c.in_ok-users.ensures.same early) c.loop-row.invariant.so_far c.add_naming.ensures.survives clean (c.in_err-add_naming.ensures.cause clean))
+    (naming_blamed _ old mid now new _ c.list_users.ensures.within.survives (c.in_ok-users.ensures.within.same early) c.loop-row.invariant.so_far c.add_naming.ensures.within.survives clean (c.in_err-add_naming.ensures.cause clean))

@@ -13,16 +13,16 @@ returns-clause-answer g c clean before stands =
     let one = state g.S.Store c.list.new.tx.conn.now in
     let two = state g.S.Store c.damaged_among.new.tx.conn.now in
     let rows = c.in_ok-rows.rows.items in
-    let late : HasCleanDisk two = omega (arith, c.entries_naming.ensures.survives.clean) in
-    let early : HasCleanDisk one = omega (arith, late, c.damaged_among.ensures.survives.clean) in
+    let late : HasCleanDisk two = omega (arith, c.entries_naming.ensures.within.survives.clean) in
+    let early : HasCleanDisk one = omega (arith, late, c.damaged_among.ensures.within.survives.clean) in
     let reads = c.in_ok-rows.ensures.step early in
     let stays = c.in_ok-digests.ensures.same late in
-    scrubbed old one two rows reads before stands stays c.in_ok-contents.contents c.in_ok-digests.digests.items c.len-damaged.result c.in_ok-entries.entries.items c.in_ok-contents.ensures.total.0 c.in_ok-contents.ensures.total.1
+    scrubbed old one two rows reads before stands stays c.in_ok-contents.contents c.in_ok-digests.digests.items c.len-damaged.result c.in_ok-entries.entries.items c.in_ok-contents.ensures.shown.0 c.in_ok-contents.ensures.shown.1
     (c.in_ok-digests.ensures.answer late before (stands_one old one two rows reads before stands) (shows_one old one two rows reads before stands)) (search rules)
     (c.in_ok-entries.ensures.answer clean before (stands_two old one two rows reads before stands stays)) _ refl refl refl
 
 pub returns-in_err-rows-clause-cause : goal.returns-in_err-rows-clause-cause
-returns-in_err-rows-clause-cause g c clean = passed c.from_residual.result _ _ c.from_residual.ensures.1 (λ _ is before stands. inl (c.in_err-rows.ensures.asks.fault clean is stands.schema))
+returns-in_err-rows-clause-cause g c clean = passed c.from_residual.result _ _ c.from_residual.ensures.1 (λ _ is before stands. inl (c.in_err-rows.ensures.fault clean is stands.schema))
 
 pub returns-in_err-contents-clause-cause : goal.returns-in_err-contents-clause-cause
 returns-in_err-contents-clause-cause g c clean =
@@ -38,9 +38,9 @@ returns-in_err-digests-clause-cause g c clean =
     let old = state g.S.Store c.args.tx.now.conn.now in
     let one = state g.S.Store c.list.new.tx.conn.now in
     let new = state g.S.Store c.damaged_among.new.tx.conn.now in
-    let early : HasCleanDisk one = omega (arith, clean, c.damaged_among.ensures.survives.clean) in
+    let early : HasCleanDisk one = omega (arith, clean, c.damaged_among.ensures.within.survives.clean) in
     passed c.from_residual-in_err-digests.result _ _ c.from_residual-in_err-digests.ensures.1
-    (reading_blamed old one new c.in_ok-rows.rows.items _ (c.in_ok-rows.ensures.step early) c.list.ensures.asks.survives c.damaged_among.ensures.survives clean (c.in_err-digests.ensures.cause clean))
+    (reading_blamed old one new c.in_ok-rows.rows.items _ (c.in_ok-rows.ensures.step early) c.list.ensures.survives c.damaged_among.ensures.within.survives clean (c.in_err-digests.ensures.cause clean))
 
 pub returns-in_err-entries-clause-cause : goal.returns-in_err-entries-clause-cause
 returns-in_err-entries-clause-cause g c clean =
@@ -48,8 +48,8 @@ returns-in_err-entries-clause-cause g c clean =
     let one = state g.S.Store c.list.new.tx.conn.now in
     let two = state g.S.Store c.damaged_among.new.tx.conn.now in
     let new = state g.S.Store c.entries_naming.new.tx.conn.now in
-    let late : HasCleanDisk two = omega (arith, clean, c.entries_naming.ensures.survives.clean) in
-    let early : HasCleanDisk one = omega (arith, late, c.damaged_among.ensures.survives.clean) in
+    let late : HasCleanDisk two = omega (arith, clean, c.entries_naming.ensures.within.survives.clean) in
+    let early : HasCleanDisk one = omega (arith, late, c.damaged_among.ensures.within.survives.clean) in
     passed c.from_residual-in_err-entries.result _ _ c.from_residual-in_err-entries.ensures.1
-    (entries_blamed old one two new c.in_ok-rows.rows.items _ (c.in_ok-rows.ensures.step early) (c.in_ok-digests.ensures.same late) c.list.ensures.asks.survives c.damaged_among.ensures.survives c.entries_naming.ensures.survives
+    (entries_blamed old one two new c.in_ok-rows.rows.items _ (c.in_ok-rows.ensures.step early) (c.in_ok-digests.ensures.same late) c.list.ensures.survives c.damaged_among.ensures.within.survives c.entries_naming.ensures.within.survives
     clean (c.in_err-entries.ensures.cause clean))

@@ -31,7 +31,7 @@ pub returns-in-None-clause-lacking : goal.returns-in-None-clause-lacking
 returns-in-None-clause-lacking g c clean _ has = inr (inl ((rw c.in-None.is at (c.in_ok-row.ensures.step clean)) has).change.1)
 
 pub returns-in_err-row-clause-lacking : goal.returns-in_err-row-clause-lacking
-returns-in_err-row-clause-lacking g c clean = passed c.from_residual.result _ _ c.from_residual.ensures.1 (λ is has. inl (c.in_err-row.ensures.asks.fault clean is has))
+returns-in_err-row-clause-lacking g c clean = passed c.from_residual.result _ _ c.from_residual.ensures.1 (λ is has. inl (c.in_err-row.ensures.fault clean is has))
 
 pub returns-in-Some-clause-cause : goal.returns-in-Some-clause-cause
 returns-in-Some-clause-cause g c clean =

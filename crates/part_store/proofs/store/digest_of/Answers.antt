@@ -37,4 +37,4 @@ returns-in_err-get-in-Some-clause-unnamed g c clean =
     (λ digest there. unread c.in-Some.row 0 _ c.in_err-get-in-Some.ensures.kind wide (digest, there) is) has))
 
 pub returns-in_err-row-clause-unnamed : goal.returns-in_err-row-clause-unnamed
-returns-in_err-row-clause-unnamed g c clean = passed c.from_residual.result _ _ c.from_residual.ensures.1 (λ is has. inl (c.in_err-row.ensures.asks.fault clean is has))
+returns-in_err-row-clause-unnamed g c clean = passed c.from_residual.result _ _ c.from_residual.ensures.1 (λ is has. inl (c.in_err-row.ensures.fault clean is has))

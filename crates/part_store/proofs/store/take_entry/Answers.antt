@@ -16,8 +16,8 @@ returns-clause-taken g c clean _ =
     let late : HasCleanDisk two = omega (arith, c.remove_unnamed.ensures.survives.clean) in
     let early : HasCleanDisk one = omega (arith, late, c.remove.ensures.survives.clean) in
     let told = rw c.in-Some.is at (c.in_ok-digest.ensures.answer early) in
-    entry_taken_out old one two new c.args.user.now c.args.number c.in-Some.digest.items told (c.in_ok-digest.ensures.same early) (c.digest_of.ensures.within.kept early) (c.in_ok-remove.ensures.step late)
-    (rw c.deref.ensures.value at (c.in_ok-remove_unnamed.ensures.tidied clean))
+    entry_taken_out old one two new c.args.user.now c.args.number c.in-Some.digest.items told (c.in_ok-digest.ensures.within.same early) (c.digest_of.ensures.within.kept early) (c.in_ok-remove.ensures.step late)
+    (rw c.deref.ensures.value at (c.in_ok-remove_unnamed.ensures.step clean))
 
 pub returns-clause-there : goal.returns-clause-there
 returns-clause-there g c clean _ before stands =
@@ -37,7 +37,7 @@ returns-in_err-remove-clause-cause g c clean =
     let two = state g.S.Store c.remove.new.tx.conn.now in
     let early : HasCleanDisk one = omega (arith, clean, c.remove.ensures.survives.clean) in
     passed c.from_residual-in_err-remove.result _ _ c.from_residual-in_err-remove.ensures.1
-    (row_refused old one two _ (c.in_ok-digest.ensures.same early) (c.in_ok-digest.ensures.inside early) c.digest_of.ensures.within.survives c.remove.ensures.survives clean (c.in_err-remove.ensures.fault clean))
+    (row_refused old one two _ (c.in_ok-digest.ensures.within.same early) (c.in_ok-digest.ensures.within.inside early) c.digest_of.ensures.within.survives c.remove.ensures.survives clean (c.in_err-remove.ensures.fault clean))
 
 pub returns-in_err-remove_unnamed-clause-cause : goal.returns-in_err-remove_unnamed-clause-cause
 returns-in_err-remove_unnamed-clause-cause g c clean =
@@ -48,5 +48,5 @@ returns-in_err-remove_unnamed-clause-cause g c clean =
     let late : HasCleanDisk two = omega (arith, clean, c.remove_unnamed.ensures.survives.clean) in
     let early : HasCleanDisk one = omega (arith, late, c.remove.ensures.survives.clean) in
     passed c.from_residual-in_err-remove_unnamed.result _ _ c.from_residual-in_err-remove_unnamed.ensures.1
-    (octets_refused old one two new c.args.user.now c.args.number _ (c.in_ok-digest.ensures.same early) (c.in_ok-digest.ensures.inside early) (c.in_ok-remove.ensures.step late) c.digest_of.ensures.within.survives
+    (octets_refused old one two new c.args.user.now c.args.number _ (c.in_ok-digest.ensures.within.same early) (c.in_ok-digest.ensures.within.inside early) (c.in_ok-remove.ensures.step late) c.digest_of.ensures.within.survives
     c.remove.ensures.survives c.remove_unnamed.ensures.survives clean (c.in_err-remove_unnamed.ensures.fault clean))

@@ -20,7 +20,7 @@ loop-user-preserved g c =
     let pair = same_pair c.loop-user-item.result user program c.deref.ensures c.deref-in-loop-user.ensures.value in
     let whole = mapped_more pair_of programs place c.loop-user-item.result c.loop-user-test.true c.loop-user-item.is in
     record {
-      same_reference = c.replace_program.ensures.same_reference ∙ c.loop-user.invariant.same_reference;
+      same_reference = c.replace_program.ensures.within.same_reference ∙ c.loop-user.invariant.same_reference;
       so_far = subst (λ pairs. Replacing with_programs pairs old new) (ap (λ p. map pair_of (take place programs) ++ p ∷ []) (sym pair) ∙ whole)
           (replaced_more with_programs (map pair_of (take place programs)) (user, program) old mid new c.loop-user.invariant.so_far c.replace_program.ensures.within.survives
           (programs_push (map pair_of (take place programs)) (user, program)) c.in_ok-replace_program.ensures.step c.in_ok-replace_program.ensures.inside c.in_ok-replace_program.ensures.schema c.in_ok-replace_program.ensures.within.was_open c.replace_program.ensures.within.stays_closed c.replace_program.ensures.within.kept c.in_ok-replace_program.ensures.rowids);

@@ -35,7 +35,7 @@ returns-in_err-commit-clause-writes g c =
     let is_open = λ (clean : HasCleanDisk mid). subst (λ h. 0 < length users → IsTrue (state g.S.Store h).is_open) begun (c.in_ok-put_all.ensures.open clean) in
     let survives = subst (λ h. Survives (state g.S.Store h) new (λ trees. (0 < length users → IsTrue (state g.S.Store h).is_open) × MayMake change (state g.S.Store h) trees)) c.self.view_is
     (commits_shown g.S.Store c.self.inside.conn mid new (λ trees. (0 < length users → IsTrue (state g.S.Store c.self.inside.conn).is_open) × MayMake change (state g.S.Store c.self.inside.conn) trees)
-    (subst (λ h. Survives (state g.S.Store h) mid (λ _. ⊥)) begun c.put_all.ensures.survives) (λ clean. (is_open clean, brought_store g.S.Store c.self.inside.conn mid new change (brings clean))) c.commit.ensures.survives) in
+    (subst (λ h. Survives (state g.S.Store h) mid (λ _. ⊥)) begun c.put_all.ensures.within.survives) (λ clean. (is_open clean, brought_store g.S.Store c.self.inside.conn mid new change (brings clean))) c.commit.ensures.survives) in
     record { made = search rules; unchanged = search rules; survives = survives }
 
 pub returns-clause-writes : goal.returns-clause-writes
@@ -49,7 +49,7 @@ returns-clause-writes g c =
     let is_open = λ (clean : HasCleanDisk mid). subst (λ h. 0 < length users → IsTrue (state g.S.Store h).is_open) begun (c.in_ok-put_all.ensures.open clean) in
     let survives = subst (λ h. Survives (state g.S.Store h) new (λ trees. (0 < length users → IsTrue (state g.S.Store h).is_open) × MayMake change (state g.S.Store h) trees)) c.self.view_is
     (commits_shown g.S.Store c.self.inside.conn mid new (λ trees. (0 < length users → IsTrue (state g.S.Store c.self.inside.conn).is_open) × MayMake change (state g.S.Store c.self.inside.conn) trees)
-    (subst (λ h. Survives (state g.S.Store h) mid (λ _. ⊥)) begun c.put_all.ensures.survives) (λ clean. (is_open clean, brought_store g.S.Store c.self.inside.conn mid new change (brings clean))) c.commit.ensures.survives) in
+    (subst (λ h. Survives (state g.S.Store h) mid (λ _. ⊥)) begun c.put_all.ensures.within.survives) (λ clean. (is_open clean, brought_store g.S.Store c.self.inside.conn mid new change (brings clean))) c.commit.ensures.survives) in
     record {
       made = λ clean.
           let early : HasCleanDisk mid = omega (arith, clean, c.commit.ensures.survives.clean) in
