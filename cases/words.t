@@ -989,6 +989,7 @@ Help.
     2> quotation marks; in these \22 is a quotation mark, \5c a backslash, \0a a line break.
     2> Each answer is on standard output, with a line after it: = 0 (done), = 1 (refused), or = 2 (not a
     2> command; then the answer begins with ?).
+    2> If the first line is `json`, it has no answer, and each later line gets a JSON object on one line.
     2> Until the batch ends, other commands on DB wait, and are refused 43 after ten seconds; `inspect` and
     2> `scrub` don't wait. After a line that is refused 43 the batch ends, and later lines have no answer.
     2>

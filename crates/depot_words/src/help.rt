@@ -290,6 +290,7 @@ pub const BATCH: &str = concat!(
     "quotation marks; in these \\22 is a quotation mark, \\5c a backslash, \\0a a line break.\n",
     "Each answer is on standard output, with a line after it: = 0 (done), = 1 (refused), or = 2 (not a\n",
     "command; then the answer begins with ?).\n",
+    "If the first line is `json`, it has no answer, and each later line gets a JSON object on one line.\n",
     "Until the batch ends, other commands on DB wait, and are refused 43 after ten seconds; `inspect` and\n",
     "`scrub` don't wait. After a line that is refused 43 the batch ends, and later lines have no answer.\n\n",
     "Example:\n  echo deliver ann mail.eml | depot batch mail.depot\n\n",

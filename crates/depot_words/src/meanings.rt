@@ -29,7 +29,8 @@ const MEANINGS: &[Meaning] = &[
         "1",
         "Memory",
         "An allocation failed. The command changed nothing in a depot; earlier lines of a batch are done. An\n\
-         export or a trace can have written a part of its answer.",
+         export or a trace can have written a part of its answer. In a batch in JSON an answer that is\n\
+         incomplete was done or refused as its status says.",
         "Free memory, or raise the memory limit of the process."
     ),
     meaning!(
