@@ -7,8 +7,6 @@ use Rattle.std.specs.Fmt.{decimal}
 use Rattle.sqlite_trees.specs.declared.store.Store.{Ghosts}
 use Rattle.sqlite.specs.Held.{Held, state}
 use Rattle.sqlite.specs.State.{HasCleanDisk, State}
-use Rattle.serde_json.specs.Data.{Members, object}
-use Rattle.serde_json.specs.Written.{compact_text}
 use Rattle.mime_decode.specs.Mail.{mail_of}
 use Rattle.catalog.specs.Catalog.{Filed, catalog, line_among, messages_of, parts_of, piece_of, row_of_filed}
 use Rattle.catalog.specs.Lines.{message_line, part_line}
@@ -159,11 +157,8 @@ one_line : (text : List ℕ) → IsVisible text → is_one_line text ≡ true
 one_line [] visible = refl
 one_line (x ∷ xs) visible = rw (other x 10 (λ e. omega (arith, e, visible.0))) (one_line xs visible.1)
 
-object_passes : (members : Members) (more : List ℕ) → IsVisible (compact_text (object members))
-    → has_closing true ((compact_text (object members) ++ 10 ∷ []) ++ more) ≡ has_closing true more
-object_passes members more visible =
-    let text = compact_text (object members) in
-    ap (has_closing true) (append_assoc text (10 ∷ []) more) ∙ line_passes text more refl (one_line text visible)
+text_passes : (text more : List ℕ) → begins_otherwise text ≡ true → IsVisible text → has_closing true ((text ++ 10 ∷ []) ++ more) ≡ has_closing true more
+text_passes text more begins visible = ap (has_closing true) (append_assoc text (10 ∷ []) more) ∙ line_passes text more begins (one_line text visible)
 
 entry_passes : (all : List Filed) (x : Filed) (more : List ℕ) → has_closing true (line_among all x ++ more) ≡ has_closing true more
 entry_passes all x more = go x.is_message
@@ -178,16 +173,19 @@ entry_passes all x more = go x.is_message
     messages = messages_with row.digest (messages_of all)
 
     go : (b : Bool) → has_closing true ((cond b (message_line row (mail_of x.octets) stored) (part_line row messages) ++ 10 ∷ []) ++ more) ≡ has_closing true more
-    go true = object_passes _ more (message_plain row (mail_of x.octets) stored).visible
-    go false = object_passes _ more (part_plain row messages).visible
+    go true = text_passes (message_line row (mail_of x.octets) stored) more refl (message_plain row (mail_of x.octets) stored).visible
+    go false = text_passes (part_line row messages) more refl (part_plain row messages).visible
 
 catalog_closes_none : (after : ℕ) (all some : List Filed) → has_closing true (flat_map (piece_of after all) some) ≡ false
 catalog_closes_none after all [] = refl
-catalog_closes_none after all (x ∷ xs) = go (nat_lt after x.number)
+catalog_closes_none after all (x ∷ xs) = go (nat_lt after x.number) (catalog_closes_none after all xs)
   where
-    go : (b : Bool) → has_closing true (cond b (line_among all x) [] ++ flat_map (piece_of after all) xs) ≡ false
-    go true = entry_passes all x (flat_map (piece_of after all) xs) ∙ catalog_closes_none after all xs
-    go false = catalog_closes_none after all xs
+    rest : List ℕ
+    rest = flat_map (piece_of after all) xs
+
+    go : (b : Bool) → has_closing true rest ≡ false → has_closing true (cond b (line_among all x) [] ++ rest) ≡ false
+    go true none = entry_passes all x rest ∙ none
+    go false none = none
 
 catalogued : (user : List ℕ) (number : ℕ) (reply : DepotReply) (old new : State) (before : Entries) → HasDone (depot.Catalog user number) reply old new → HasCleanDisk new
     → Stands old.now before → has_closing true (reply_text (depot.Catalog user number) reply) ≡ false

@@ -63,7 +63,7 @@ migrated_are (depot.Text text) = tt
 migrated_are (depot.Listed entries) = tt
 
 -- what is told has members that are plain
-AreTold : Told → Type 0
+abbrev AreTold : Told → Type 0
 AreTold (OfMembers members) = ArePlain 3 members
 AreTold (OfLines lines) = ⊤
 

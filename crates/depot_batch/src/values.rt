@@ -43,7 +43,8 @@ pub fn report_line(alloc: Global, report: &Report) -> Result<Vec<u8>, AllocError
     ensures { IfOk result (λ line. line.items
         ≡ told_line (outcome_of report.now) (report_told report.now)) }
 {
-    match report_told(alloc, report)? {
+    let told = report_told(alloc, report)?;
+    match told {
         Told::Members(members) => {
             let value = with_status(alloc, members, status_of(report))?;
             text_line(alloc, &value)

@@ -38,6 +38,15 @@ returns-in-None-number_of-clause-nothing c = (
   _,
   _,
   _,
-  ap (λ t. name_of c.args.form ∷ t) (two c.args.rest.now (record { ref_ptr = (0, 0); now = [] }) c.in-Remove-len2.len_at_least),
+  ap (λ t. name_of c.args.form ∷ t) (two c.args.rest.now (record { ref_ptr = (0, 0); now = [] }) c.in-Catalog-len2.len_at_least),
   c.in-None-number_of.ensures,
+)
+
+pub returns-in-None-number_of-2-clause-nothing : goal.returns-in-None-number_of-2-clause-nothing
+returns-in-None-number_of-2-clause-nothing c = (
+  _,
+  _,
+  _,
+  ap (λ t. name_of c.args.form ∷ t) (two c.args.rest.now (record { ref_ptr = (0, 0); now = [] }) c.in-Remove-len2.len_at_least),
+  c.in-None-number_of-2.ensures,
 )
