@@ -10,7 +10,7 @@ Both scripts take a lock by the file beside the depot. The names of what is save
 
 ## the answers in JSON that the page shows
     $ sed -n '/^### Answers in JSON/,/^|/s/^    //p' "$TOP/docs/INTERFACE.md" | sed 's,/tmp/,,g' > page
-    $ sed -n 's/^\$ //p; /^      /p' page > commands; grep -v '^\$ \|^      ' page > answers; wc -l < commands; sh commands | diff answers - && rm page commands answers
+    $ sed -n 's/^\$ //p; /^      /p' page > commands; grep -v '^\$ \|^      ' page > answers; wc -l < commands; sh commands | diff answers - && rm page commands answers json.depot json.depot-wal
     3
 
 ## the catalog that the page shows

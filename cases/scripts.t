@@ -47,7 +47,7 @@ Only if: command -v nm # there is no nm
 
 ## refusals of memory, and the reasons of each
     $ "$TOP/cases/memory_refusals"
-    70 places, each with its reason
+    71 places, each with its reason
 
 ## deliver, behind a mail server
 Only if: command -v flock # there is no flock
@@ -77,4 +77,4 @@ Only if: python3 -c 'import sqlite3' # there is no sqlite3 for python3
 
 ## a batch answers as its commands do alone, and loses nothing where it is killed
     $ "$TOP/cases/batches" depot
-    308 lines, 0 answered otherwise than alone; 20 batches killed, 0 left something else; 2 runs of refile killed, 0 left something else
+    303 lines, 0 answered otherwise than alone; 20 batches killed, 0 left something else; 2 runs of refile killed, 0 left something else
