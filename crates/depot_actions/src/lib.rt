@@ -64,7 +64,7 @@
 //!
 //! A catalog of a user is exactly the text of its definition: a line for each entry above the number, in the order of
 //! the numbers, made of the entries and their bytes alone. Which messages and parts belong together is looked for among
-//! all entries of the user. It changes nothing. Each content is read once.
+//! all entries of the user. It changes nothing. It is not proved that each content is read once.
 //!
 //! ### Scrubbing a depot
 //!

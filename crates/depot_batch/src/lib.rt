@@ -40,8 +40,8 @@
 //!
 //! A batch goes by turns. In a turn a line is done and answered alone; or up to 64 lines are done together; or lines
 //! were tried together in vain. Only lines that begin with `deliver ` are done or tried together. Each of the lines that
-//! are done together asks for a delivery, and their files were read one after another. If the disk returns what was written the depot accepted them all, one after another, and
-//! the answers are theirs, in order, each with its `= 0`.
+//! are done together asks for a delivery, and their files were read one after another. If the disk returns what was
+//! written the depot accepted them all, one after another, and the answers are theirs, in order, each with its `= 0`.
 //!
 //! ### Lines that are tried in vain
 //!
