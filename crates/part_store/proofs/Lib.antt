@@ -18,6 +18,7 @@ mod Reading
 mod Filed
 mod FiledAll
 pub mod Entering
+mod Afterwards
 mod Removing
 mod Verified
 mod Listed
@@ -52,6 +53,7 @@ mod Fitting
 mod Room
 mod NoRoom
 mod RefusedAdding
+mod RolledBack
 mod Queries
 mod Damaged
 mod Referring

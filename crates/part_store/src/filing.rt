@@ -3,7 +3,7 @@
 //! Different bytes under a digest are found while the entries are filed: each content is compared in its row. Then the
 //! transaction is given up, so nothing of the delivery is left. So each digest is made once. If the tables have no room
 //! for an earlier row, the answer is `Database`.
-ghost use Rattle.std.specs.Prelude.{◌≡◌, ◌≢◌, ◌⊎◌, ◌<◌, ℕ, List, length, true, false, IsTrue, IfOk, IfErr};
+ghost use Rattle.std.specs.Prelude.{◌≡◌, ◌≢◌, ◌⊎◌, ◌<◌, ℕ, List, length, true, false, IsTrue, IfOk, IfErr, Ok};
 ghost use Rattle.sqlite_value.specs.declared.value.Value.TheVariants.{Blob};
 ghost use Rattle.sqlite_value.specs.Order.{column};
 ghost use Rattle.sha2.specs.Sha256.{sha256};
@@ -53,6 +53,8 @@ fn stock<S: Alter>(
     ensures other { IfDone S.Store tx.old.conn.now tx.new.conn.now result
         (λ done old _. done ≡ false → (before : _) → Stands old.now before
         → IsOther old.now.trees digest.now octets.now) }
+    ensures spared { is_there ≡ true → (result ≡ Ok true)
+        × (tx.new.conn.now ≡ tx.old.conn.now) }
     ensures inside { OnDone S.Store tx.old.conn.now tx.new.conn.now result StaysInside }
     ensures cause { IfRefused S.Store tx.old.conn.now tx.new.conn.now result
         (λ old new e. refusal_of e ≡ Database → IsTrue old.in_transaction → (before : _)

@@ -6,7 +6,6 @@
 ghost use Rattle.std.specs.Prelude.{◌≡◌, ◌⊎◌, List, [], IsTrue};
 ghost use Rattle.sqlite.specs.Effect.{Database};
 ghost use Rattle.sqlite.specs.Files.{file_state};
-ghost use Rattle.sqlite.specs.FileStore.{view};
 ghost use Rattle.sqlite.specs.Held.{Held, state};
 ghost use Rattle.sqlite.specs.Recovery.{Image};
 ghost use Rattle.sqlite.specs.State.{HasCleanDisk, Survives};
@@ -26,6 +25,7 @@ use crate::store::PartStore;
 use crate::within::know_connection;
 use sqlite::{Alter, Connection, FileStore};
 use sqlite_disk::Disk;
+use sqlite_trees::store::Store;
 
 /// An open store lists its tables. So if it has the three tables, it holds each state that they represent. Returns the
 /// store's connection.
@@ -100,21 +100,19 @@ pub fn stores_are_not_told_as_others<D: Disk + Drop>()
         → HasOtherTables (file_state found) → ⊥ }
 {}
 
-/// The storage below a store, with everything that isn't committed rolled back. If its disk is clean, the trees are
-/// numbered.
-fn stood_on<S: Alter + Drop>(store: PartStore<S>) -> S
+/// A store over files whose disk is clean has numbered trees. Returns the storage below the store, with everything that
+/// isn't committed rolled back. The same holds for a store over any other storage.
+pub fn trees_are_numbered<S: Alter + Drop>(store: PartStore<S>) -> S
     ensures { IsClean (S.Store.view result) → IsTrue (S.Store.view store.store).is_numbered }
 {
     store.release().into_store()
 }
 
-/// A store over files whose disk is clean has numbered trees. Returns the storage below the store, with everything that
-/// isn't committed rolled back.
-pub fn trees_are_numbered<D: Disk + Drop>(store: PartStore<FileStore<D>>) -> FileStore<D>
-    ensures { IsClean (view result) → HasNumberedTrees store }
-{
-    stood_on(store)
-}
+/// For a store over files, what [`trees_are_numbered`] says is the premise of the laws above.
+pub fn numbered_over_files<D: Disk + Drop>()
+    ensures { (c : Held (FileStore D D.Disk))
+        → IsTrue (⟦<FileStore<D> as Store>⟧.view c.store).is_numbered → HasNumberedTrees c }
+{}
 
 /// An open that fails leaves files that represent the same state, if they held its store or no tables, and if the
 /// database in them has no checksums at the ends of its pages or a crash cut the open off before the first command. An

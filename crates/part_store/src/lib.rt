@@ -131,7 +131,7 @@
 //! open that is refused `Memory`, or that leaves no files.
 //!
 //! By `PartStore::open_from`, `look_from`, `adopt`, `close_files`; laws `each_image_holds_one_left`,
-//! `trees_are_numbered`, `refused_opens_leave_the_state`, `stores_are_not_told_as_others`.
+//! `trees_are_numbered`, `numbered_over_files`, `refused_opens_leave_the_state`, `stores_are_not_told_as_others`.
 #![tactic(auto)]
 
 mod adding;

@@ -2,10 +2,11 @@
 //!
 //! `list_since` asks for each entry's length with a statement of its own. A join of both tables would be one statement, but
 //! what is proved about statements here is about one table.
-ghost use Rattle.std.specs.Prelude.{◌≡◌, ◌⊎◌, ◌≤◌, ℕ, pos, List, length, map, IfOk, IfErr};
-ghost use Rattle.sqlite_value.specs.declared.value.Value.TheVariants.{Int};
+ghost use Rattle.std.specs.Prelude.{◌≡◌, ◌⊎◌, ◌≤◌, ℕ, pos, List, length, map, IfOk, IfErr, Some};
+ghost use Rattle.sqlite_value.specs.declared.value.Value.TheVariants.{Blob, Int};
 ghost use Rattle.sqlite_value.specs.Order.{column};
-ghost use Rattle.part_store.specs.Tables.{contents_tree};
+ghost use Rattle.part_store.specs.Tables.{contents_tree, equals, store_schema};
+ghost use Rattle.part_store.specs.Changes.{IsFound, length_at};
 ghost use Rattle.part_store.specs.Entries.{entries_of, entries_since, listing_of};
 ghost use Rattle.part_store.specs.Standing.{HasContent, Stands, kind_number, listed};
 ghost use Rattle.part_store.specs.Readings.{IsParts, Shows, IsReadable};
@@ -64,6 +65,10 @@ fn size_of<S: Alter>(tx: &mut Transaction<'_, S>, digest: &[u8]) -> Result<u64, 
     ensures answer { IfDone S.Store tx.old.conn.now tx.new.conn.now result
         (λ size old _. (before : _) → Stands old.now before → (octets : List ℕ)
         → HasContent (old.now.trees contents_tree) digest.now octets → size ≡ length octets) }
+    ensures shown { IfDone S.Store tx.old.conn.now tx.new.conn.now result
+        (λ size old _. old.now.schema ≡ store_schema
+        → (row : _) × IsFound contents_tree (equals 1 (Blob digest.now)) (length_at 2) old.now.trees (Some row)
+        × (column row 0 ≡ Int (pos size))) }
     ensures cause { IfRefused S.Store tx.old.conn.now tx.new.conn.now result
         (λ old new e. (octets : List ℕ) → HasContent (old.now.trees contents_tree) digest.now octets
         → OnlyWhenFailed old new (refusal_of e)) }

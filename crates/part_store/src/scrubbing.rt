@@ -2,7 +2,7 @@
 //!
 //! The digests are listed first, so one content at a time is in memory. Only if some are damaged, the entries are read,
 //! those of one user at a time.
-ghost use Rattle.std.specs.Prelude.{◌≡◌, ◌⊎◌, ◌∷◌, ◌++◌, [], map, IfErr, OnOk};
+ghost use Rattle.std.specs.Prelude.{◌≡◌, ◌⊎◌, ◌∷◌, ◌++◌, [], map, IfErr, IsOk, OnOk};
 ghost use Rattle.std.specs.List.{AllByRecursion};
 ghost use Rattle.part_store.specs.Standing.{Stands};
 ghost use Rattle.part_store.specs.Inside.{Stays};
@@ -121,6 +121,7 @@ fn entries_naming<S: Alter>(
         (λ entries old _. (before : _) → Stands old.now before
         → AreDamagedDigests old.now.trees digests.now.items
         → AreDamagedOf old.now.trees before (map damaged_line entries.items)) }
+    ensures spared { digests.now.items ≡ [] → IsOk result × (tx.new.conn.now ≡ tx.old.conn.now) }
     ensures refused { IfErr result (λ e. (e ≡ Memory) ⊎ (e ≡ Database)) }
     ensures cause { IfRefused S.Store tx.old.conn.now tx.new.conn.now result OnlyWhenUnnamed }
     ensures within { KeepsInside S.Store tx.old.conn tx.new.conn result }

@@ -3,6 +3,7 @@ use Rattle.std.proofs.lemmas.List.{length-map, length-take}
 use Rattle.sqlite.specs.State.{HasCleanDisk}
 use Rattle.sqlite.specs.Held.{state}
 use Rattle.part_store.specs.Standing.{draft_of}
+use Rattle.part_store.proofs.Afterwards.{both_kept, both_survive, undone}
 use Rattle.part_store.proofs.FiledAll.{collides, drafts_more, drafts_split, earlier_draft, entry_at, octets_here, one_more}
 use Rattle.part_store.proofs.NoRoom.{filing_refused}
 use Rattle.part_store.proofs.Runs.{passed}
@@ -66,3 +67,33 @@ returns-in_err-file_entry-clause-cause g c clean =
     (filing_refused c.args.user.now c.args.last (length entries) (c.loop-entry.number + 1) drafts (map draft_of (drop (place + 1) entries)) (map draft_of entries) (draft_of (entry_at entries place)) c.digest_at-is_there.result.1 old mid new _ (λ is. earlier_draft entries place c.loop-entry-test.true (known.earlier is))
     (omega (arith, long, c.loop-entry-test.true)) (omega (arith, long, c.loop-entry.invariant.number)) (drafts_split entries place c.loop-entry-test.true) (sym (length-map entries draft_of))
     c.loop-entry.invariant.so_far c.file_entry.ensures.within.survives clean (c.in_err-file_entry.ensures.cause clean))
+
+pub returns-in_err-file_entry-clause-within : goal.returns-in_err-file_entry-clause-within
+returns-in_err-file_entry-clause-within g c =
+    let old = state g.S.Store c.args.tx.now.conn.now in
+    let mid = state g.S.Store c.loop-entry.tx.conn.now in
+    let new = state g.S.Store c.file_entry.new.tx.conn.now in
+    let so_far = c.loop-entry.invariant.so_far in
+    let last = c.file_entry.ensures.within in
+    record {
+      same_reference = last.same_reference ∙ c.loop-entry.invariant.same_reference;
+      schema = λ _. undone c.from_residual.result _ _ c.from_residual.ensures.1;
+      kept = both_kept old mid new so_far.survives last.survives so_far.kept so_far.schema last.kept;
+      survives = both_survive old mid new so_far.survives last.survives;
+    }
+
+pub returns-then-not-branch-clause-within : goal.returns-then-not-branch-clause-within
+returns-then-not-branch-clause-within g c =
+    let old = state g.S.Store c.args.tx.now.conn.now in
+    let mid = state g.S.Store c.loop-entry.tx.conn.now in
+    let new = state g.S.Store c.file_entry.new.tx.conn.now in
+    let so_far = c.loop-entry.invariant.so_far in
+    let last = c.file_entry.ensures.within in
+    record {
+      same_reference = last.same_reference ∙ c.loop-entry.invariant.same_reference;
+      schema = λ clean has.
+          let early : HasCleanDisk mid = omega (arith, clean, last.survives.clean) in
+          c.in_ok-file_entry.ensures.within.schema clean (so_far.schema early has);
+      kept = both_kept old mid new so_far.survives last.survives so_far.kept so_far.schema last.kept;
+      survives = both_survive old mid new so_far.survives last.survives;
+    }

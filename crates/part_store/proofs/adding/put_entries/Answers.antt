@@ -5,6 +5,7 @@ use Rattle.sqlite.specs.Held.{state}
 use Rattle.part_store.specs.Causes.{TellsOfRow}
 use Rattle.part_store.specs.Filing.{Collides}
 use Rattle.part_store.specs.Standing.{AddsVerified, draft_of}
+use Rattle.part_store.proofs.Afterwards.{went_on}
 use Rattle.part_store.proofs.Entering.{collides_after, stands_still}
 use Rattle.part_store.proofs.NoRoom.{entries_after, entries_blamed, stood}
 use Rattle.part_store.proofs.Runs.{passed}
@@ -64,3 +65,12 @@ returns-in_err-claim_and_file-clause-cause g c clean =
     c.in_err-claim_and_file.ensures.cause clean (c.in_ok-last.ensures.within.inside early stands.schema inside) (λ other there.
     let told = c.in_ok-last.ensures.answer early other (stood old mid before other still stands there) in
     (told.0, subst (λ t. TellsOfRow user t c.in_ok-last.is_known) (sym (still stands.schema).1) told.1))))
+
+pub returns-in_err-claim_and_file-clause-within : goal.returns-in_err-claim_and_file-clause-within
+returns-in_err-claim_and_file-clause-within g c = went_on g.S.Store c.in_ok-last.ensures.within _ c.claim_and_file.ensures.within
+
+pub returns-then-branch-clause-within : goal.returns-then-branch-clause-within
+returns-then-branch-clause-within g c = went_on g.S.Store c.in_ok-last.ensures.within _ c.claim_and_file.ensures.within
+
+pub returns-else-branch-clause-within : goal.returns-else-branch-clause-within
+returns-else-branch-clause-within g c = went_on g.S.Store c.in_ok-last.ensures.within _ c.claim_and_file.ensures.within

@@ -1,6 +1,7 @@
 use Rattle.std.proofs.Common.{◌∙◌, arith, sym}
 use Rattle.sqlite.specs.State.{HasCleanDisk}
 use Rattle.sqlite.specs.Held.{state}
+use Rattle.part_store.proofs.Afterwards.{asked, both_kept, both_survive, works_after}
 use Rattle.part_store.proofs.Showing.{all_read, one_read}
 use Rattle.part_store.proofs.ListedFailing.{listing_blamed}
 use Rattle.part_store.proofs.Runs.{passed}
@@ -40,3 +41,26 @@ returns-in_err-entry-clause-cause g c clean =
     passed c.from_residual-in_err-entry.result _ _ c.from_residual-in_err-entry.ensures.1
     (listing_blamed old one mid new c.args.user.now c.args.number rows c.loop-row.row-index c.row-item.result c.loop-row.listed.items _ reads c.list.ensures.survives c.loop-row-test.true c.row-item.is
     c.loop-row.invariant.so_far c.read_row.ensures.within.survives clean (c.in_err-entry.ensures.cause clean))
+
+pub returns-in_err-entry-clause-within : goal.returns-in_err-entry-clause-within
+returns-in_err-entry-clause-within g c =
+    let one = state g.S.Store c.list.new.tx.conn.now in
+    let mid = state g.S.Store c.loop-row.tx.conn.now in
+    let new = state g.S.Store c.read_row.new.tx.conn.now in
+    let so_far = c.loop-row.invariant.so_far in
+    let row = c.read_row.ensures.within in
+    works_after g.S.Store (asked g.S.Store c.in_ok-rows.ensures) _ (row.same_reference ∙ c.loop-row.invariant.same_reference)
+    (both_kept one mid new so_far.survives row.survives so_far.kept (λ clean has. (so_far.stays clean has).0) row.kept) (both_survive one mid new so_far.survives row.survives)
+
+pub returns-in_err-push-clause-within : goal.returns-in_err-push-clause-within
+returns-in_err-push-clause-within g c =
+    let one = state g.S.Store c.list.new.tx.conn.now in
+    let mid = state g.S.Store c.loop-row.tx.conn.now in
+    let new = state g.S.Store c.read_row.new.tx.conn.now in
+    let so_far = c.loop-row.invariant.so_far in
+    let row = c.read_row.ensures.within in
+    works_after g.S.Store (asked g.S.Store c.in_ok-rows.ensures) _ (row.same_reference ∙ c.loop-row.invariant.same_reference)
+    (both_kept one mid new so_far.survives row.survives so_far.kept (λ clean has. (so_far.stays clean has).0) row.kept) (both_survive one mid new so_far.survives row.survives)
+
+pub returns-clause-within : goal.returns-clause-within
+returns-clause-within g c = works_after g.S.Store (asked g.S.Store c.in_ok-rows.ensures) _ c.loop-row.invariant.same_reference c.loop-row.invariant.so_far.kept c.loop-row.invariant.so_far.survives

@@ -4,6 +4,7 @@ use Rattle.sqlite.specs.Held.{state}
 use Rattle.part_store.specs.Scanning.{texts_of}
 use Rattle.part_store.specs.Standing.{HasContent}
 use Rattle.part_store.specs.Tables.{contents_tree}
+use Rattle.part_store.proofs.Afterwards.{reading}
 use Rattle.part_store.proofs.Damaged.{none_noted, one_noted}
 use Rattle.part_store.proofs.Finding.{same_blob}
 use Rattle.part_store.proofs.Runs.{passed}
@@ -33,3 +34,12 @@ returns-in_err-octets-clause-cause g c clean =
     passed c.from_residual-in_err-octets.result _ _ c.from_residual-in_err-octets.ensures.1 (λ shows.
     let same = same_blob shows.1.0 c.in_ok-digest.digest.items (sym shows.1.2 ∙ c.in_ok-digest.ensures.ok.1) in
     c.in_err-octets.ensures.cause clean shows.1.1 (subst (λ d. HasContent (db contents_tree) d shows.1.1) (same ∙ sym c.deref.ensures.value) shows.1.3))
+
+pub returns-then-has_digest-clause-within : goal.returns-then-has_digest-clause-within
+returns-then-has_digest-clause-within g c = reading g.S.Store c.in_ok-octets.ensures.within _
+
+pub returns-in_err-push-clause-within : goal.returns-in_err-push-clause-within
+returns-in_err-push-clause-within g c = reading g.S.Store c.in_ok-octets.ensures.within _
+
+pub returns-clause-within : goal.returns-clause-within
+returns-clause-within g c = reading g.S.Store c.in_ok-octets.ensures.within _

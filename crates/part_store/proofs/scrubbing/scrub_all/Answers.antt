@@ -1,6 +1,7 @@
 use Rattle.std.proofs.Common.{◌^◌, ◌≤◌, arith, inl, inr, refl, rules, subst}
 use Rattle.sqlite.specs.Held.{state}
 use Rattle.sqlite.specs.State.{HasCleanDisk}
+use Rattle.part_store.proofs.Afterwards.{asked, went_on, went_on_twice}
 use Rattle.part_store.proofs.Runs.{passed}
 use Rattle.part_store.proofs.Scrubs.{entries_blamed, reading_blamed, scrubbed, shows_one, stands_one, stands_two}
 use Rattle.part_store.proofs.Shown.{sizes_show}
@@ -53,3 +54,12 @@ returns-in_err-entries-clause-cause g c clean =
     passed c.from_residual-in_err-entries.result _ _ c.from_residual-in_err-entries.ensures.1
     (entries_blamed old one two new c.in_ok-rows.rows.items _ (c.in_ok-rows.ensures.step early) (c.in_ok-digests.ensures.same late) c.list.ensures.survives c.damaged_among.ensures.within.survives c.entries_naming.ensures.within.survives
     clean (c.in_err-entries.ensures.cause clean))
+
+pub returns-in_err-digests-clause-within : goal.returns-in_err-digests-clause-within
+returns-in_err-digests-clause-within g c = went_on g.S.Store (asked g.S.Store c.in_ok-rows.ensures) _ c.damaged_among.ensures.within
+
+pub returns-in_err-entries-clause-within : goal.returns-in_err-entries-clause-within
+returns-in_err-entries-clause-within g c = went_on_twice g.S.Store (asked g.S.Store c.in_ok-rows.ensures) _ c.in_ok-digests.ensures.within c.entries_naming.ensures.within
+
+pub returns-clause-within : goal.returns-clause-within
+returns-clause-within g c = went_on_twice g.S.Store (asked g.S.Store c.in_ok-rows.ensures) _ c.in_ok-digests.ensures.within c.entries_naming.ensures.within

@@ -2,6 +2,7 @@ use Rattle.std.proofs.Common.{inl, inr, [], ◌∷◌, ◌<◌, length, subst, s
 use Rattle.sqlite_value.specs.Order.{Row}
 use Rattle.sqlite.specs.Held.{state}
 use Rattle.part_store.specs.Changes.{columns}
+use Rattle.part_store.proofs.Afterwards.{asked, reading}
 use Rattle.part_store.proofs.Failing.{unread}
 use Rattle.part_store.proofs.Readable.{not_missing, octets_readable}
 use Rattle.part_store.proofs.Runs.{err_then, if_ok, passed}
@@ -42,3 +43,9 @@ returns-in-Some-clause-cause g c clean =
 pub returns-in-None-clause-cause : goal.returns-in-None-clause-cause
 returns-in-None-clause-cause g c clean octets there is before stands =
     absurd (not_missing (columns (2 ∷ [])) (state g.S.Store c.args.tx.now.conn.now) (state g.S.Store c.find.new.tx.conn.now) before stands c.args.digest.now octets (rw c.in-None.is at (c.in_ok-row.ensures.step clean)) there)
+
+pub returns-in-Some-clause-within : goal.returns-in-Some-clause-within
+returns-in-Some-clause-within g c = reading g.S.Store (asked g.S.Store c.in_ok-row.ensures) _
+
+pub returns-in-None-clause-within : goal.returns-in-None-clause-within
+returns-in-None-clause-within g c = reading g.S.Store (asked g.S.Store c.in_ok-row.ensures) _

@@ -1,6 +1,7 @@
 use Rattle.std.proofs.Common.{inl, inr, ◌<◌, length, subst, sym, arith}
 use Rattle.sqlite_value.specs.Order.{Row}
 use Rattle.sqlite.specs.Held.{state}
+use Rattle.part_store.proofs.Afterwards.{asked, reading}
 use Rattle.part_store.proofs.Failing.{unread}
 use Rattle.part_store.proofs.Finding.{named_there, none_there, one_there, unnamed_there}
 use Rattle.part_store.proofs.Runs.{passed}
@@ -38,3 +39,12 @@ returns-in_err-get-in-Some-clause-unnamed g c clean =
 
 pub returns-in_err-row-clause-unnamed : goal.returns-in_err-row-clause-unnamed
 returns-in_err-row-clause-unnamed g c clean = passed c.from_residual.result _ _ c.from_residual.ensures.1 (λ is has. inl (c.in_err-row.ensures.fault clean is has))
+
+pub returns-in_ok-get-in-Some-clause-within : goal.returns-in_ok-get-in-Some-clause-within
+returns-in_ok-get-in-Some-clause-within g c = reading g.S.Store (asked g.S.Store c.in_ok-row.ensures) _
+
+pub returns-in_err-get-in-Some-clause-within : goal.returns-in_err-get-in-Some-clause-within
+returns-in_err-get-in-Some-clause-within g c = reading g.S.Store (asked g.S.Store c.in_ok-row.ensures) _
+
+pub returns-in-None-clause-within : goal.returns-in-None-clause-within
+returns-in-None-clause-within g c = reading g.S.Store (asked g.S.Store c.in_ok-row.ensures) _

@@ -1,6 +1,7 @@
 use Rattle.std.proofs.Common.{arith}
 use Rattle.sqlite.specs.State.{HasCleanDisk}
 use Rattle.sqlite.specs.Held.{state}
+use Rattle.part_store.proofs.Afterwards.{wrote, wrote_twice}
 use Rattle.part_store.proofs.Causes.{octets_refused, row_refused}
 use Rattle.part_store.proofs.Finding.{entry_there}
 use Rattle.part_store.proofs.Runs.{passed}
@@ -50,3 +51,12 @@ returns-in_err-remove_unnamed-clause-cause g c clean =
     passed c.from_residual-in_err-remove_unnamed.result _ _ c.from_residual-in_err-remove_unnamed.ensures.1
     (octets_refused old one two new c.args.user.now c.args.number _ (c.in_ok-digest.ensures.within.same early) (c.in_ok-digest.ensures.within.inside early) (c.in_ok-remove.ensures.step late) c.digest_of.ensures.within.survives
     c.remove.ensures.survives c.remove_unnamed.ensures.survives clean (c.in_err-remove_unnamed.ensures.fault clean))
+
+pub returns-in_err-remove-clause-within : goal.returns-in_err-remove-clause-within
+returns-in_err-remove-clause-within g c = wrote g.S.Store c.in_ok-digest.ensures.within _ c.remove.ensures
+
+pub returns-in_err-remove_unnamed-clause-within : goal.returns-in_err-remove_unnamed-clause-within
+returns-in_err-remove_unnamed-clause-within g c = wrote_twice g.S.Store c.in_ok-digest.ensures.within _ c.remove.ensures c.remove_unnamed.ensures
+
+pub returns-clause-within : goal.returns-clause-within
+returns-clause-within g c = wrote_twice g.S.Store c.in_ok-digest.ensures.within _ c.remove.ensures c.remove_unnamed.ensures

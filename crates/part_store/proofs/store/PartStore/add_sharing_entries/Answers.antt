@@ -1,13 +1,14 @@
-use Rattle.std.proofs.Common.{Err, IfErr, IsTrue, arith, map, rules, subst}
+use Rattle.std.proofs.Common.{Ok, Err, IfErr, IsTrue, arith, map, rules, subst}
 use Rattle.sqlite.specs.Held.{state}
 use Rattle.sqlite.specs.State.{HasCleanDisk, Survives}
-use Rattle.part_store.specs.Access.{AddsEntries, MayMakeOpen}
+use Rattle.part_store.specs.Access.{AddsEntries, MayMakeOpen, WritesStore}
 use Rattle.part_store.specs.Entries.{with_entries}
 use Rattle.part_store.specs.Inside.{Brings}
 use Rattle.part_store.specs.Refusals.{OnlyWhenFailedOrNoEntryRoom, LackRoom}
 use Rattle.part_store.specs.Standing.{Makes, draft_of}
 use Rattle.part_store.proofs.Failing.{dropped}
-use Rattle.part_store.proofs.RefusedAdding.{refused_adds}
+use Rattle.part_store.proofs.RefusedAdding.{committed_adds, failed_adds, refused_adds}
+use Rattle.part_store.proofs.RolledBack.{given_up}
 use Rattle.part_store.proofs.Runs.{passed}
 use Rattle.part_store.proofs.Stored.{committed_change}
 use Rattle.part_store.proofs.Commits.{committed_made}
@@ -66,3 +67,33 @@ returns-in_err-first-clause-adds g c =
     let adds = subst (λ h. AddsEntries g.S.Store h mid (Err error) user entries) c.begin-tx.ensures.begun c.in_err-first.ensures.adds in
     subst (λ h. AddsEntries g.S.Store h new c.from_residual.result user entries) c.self.view_is
     (refused_adds g.S.Store c.self.inside.conn mid new user entries error c.from_residual.result c.from_residual.ensures.1 c.drop-tx.ensures.survives c.drop-tx.ensures.undone adds)
+
+pub returns-in_err-commit-clause-adds : goal.returns-in_err-commit-clause-adds
+returns-in_err-commit-clause-adds g c =
+    let new = c.commit.new.self.0 in
+    let user = c.args.user.now in
+    let entries = c.args.entries.now in
+    let result = c.from_residual-in_err-commit.result in
+    subst (λ h. AddsEntries g.S.Store h new result user entries) c.self.view_is
+    (failed_adds g.S.Store c.self.inside.conn new user entries _ result c.from_residual-in_err-commit.ensures.1 (λ clean _.
+    let early : HasCleanDisk (state g.S.Store c.add_within.new.tx.conn.now) = omega (arith, clean, c.commit.ensures.survives.clean) in
+    subst (λ h. IsTrue (state g.S.Store h).is_open) c.begin-tx.ensures.begun (c.in_ok-first.ensures.within.was_open early)))
+
+pub returns-clause-adds : goal.returns-clause-adds
+returns-clause-adds g c =
+    let mid = c.add_within.new.tx.conn.now in
+    let new = c.commit.new.self.0 in
+    let user = c.args.user.now in
+    let entries = c.args.entries.now in
+    let first = c.in_ok-first.first in
+    let adds = subst (λ h. AddsEntries g.S.Store h mid (Ok first) user entries) c.begin-tx.ensures.begun c.in_ok-first.ensures.adds in
+    subst (λ h. AddsEntries g.S.Store h new (Ok first) user entries) c.self.view_is (committed_adds g.S.Store c.self.inside.conn mid new user entries first c.commit.ensures.survives adds)
+
+pub returns-in_err-first-clause-writes : goal.returns-in_err-first-clause-writes
+returns-in_err-first-clause-writes g c =
+    let new = c.drop-tx.new.self.0 in
+    let change = with_entries c.args.user.now (map draft_of c.args.entries.now) in
+    let within = c.add_within.ensures.within in
+    subst (λ h. WritesStore g.S.Store h new c.from_residual.result change (MayMakeOpen change)) c.self.view_is
+    (given_up g.S.Store c.self.inside.conn _ c.add_within.new.tx.conn.now new c.begin-tx.ensures.begun c.begin-tx.ensures.settled within.survives within.stays_closed within.kept c.drop-tx.ensures.survives c.drop-tx.ensures.undone
+    c.from_residual.result _ change (MayMakeOpen change) c.from_residual.ensures.1)

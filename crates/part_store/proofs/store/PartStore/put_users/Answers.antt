@@ -1,12 +1,15 @@
 use Rattle.std.proofs.Common.{◌<◌, IfErr, IsTrue, arith, length, map, rules, subst}
 use Rattle.sqlite.specs.Held.{state}
-use Rattle.sqlite.specs.State.{HasCleanDisk, Survives}
+use Rattle.sqlite.specs.State.{State, HasCleanDisk, Survives}
+use Rattle.sqlite_trees.specs.Tree.{Trees}
+use Rattle.part_store.specs.Access.{WritesStore}
 use Rattle.part_store.specs.Refusals.{refusal_of, OnlyWhenFailedOrNoLineRoom, HaveNoLineRoom}
 use Rattle.part_store.specs.Standing.{Makes, MayMake}
 use Rattle.part_store.proofs.Failing.{dropped}
 use Rattle.part_store.specs.Calls.{StaysClosed}
 use Rattle.part_store.specs.Inside.{Brings}
 use Rattle.part_store.specs.UserLines.{line_of, with_users}
+use Rattle.part_store.proofs.RolledBack.{given_up}
 use Rattle.part_store.proofs.Runs.{passed}
 use Rattle.part_store.proofs.Commits.{commits_shown, committed_made, brought_store}
 use Rattle.part_store.proofs.store.PartStore.put_users.Goals as goal
@@ -59,3 +62,13 @@ returns-clause-writes g c =
       unchanged = search rules;
       survives = survives;
     }
+
+pub returns-in_err-put_all-clause-writes : goal.returns-in_err-put_all-clause-writes
+returns-in_err-put_all-clause-writes g c =
+    let new = c.drop-tx.new.self.0 in
+    let change = with_users (map line_of c.args.users.now) in
+    let commits = λ (old : State) (trees : Trees). (0 < length c.args.users.now → IsTrue old.is_open) × MayMake change old trees in
+    let within = c.put_all.ensures.within in
+    subst (λ h. WritesStore g.S.Store h new c.from_residual.result change commits) c.self.view_is
+    (given_up g.S.Store c.self.inside.conn _ c.put_all.new.tx.conn.now new c.begin-tx.ensures.begun c.begin-tx.ensures.settled within.survives c.put_all.ensures.stays_closed within.kept c.drop-tx.ensures.survives c.drop-tx.ensures.undone
+    c.from_residual.result _ change commits c.from_residual.ensures.1)

@@ -2,10 +2,12 @@ use Rattle.std.proofs.Common.{◌≡◌, ℕ, List, IsTrue, arith, rules, subst,
 use Rattle.sqlite.specs.Held.{state}
 use Rattle.sqlite.specs.State.{State, HasCleanDisk, Survives}
 use Rattle.sqlite_trees.specs.Tree.{Trees}
+use Rattle.part_store.specs.Access.{WritesStore}
 use Rattle.part_store.specs.Entries.{Entries, Entry, without_entry}
 use Rattle.part_store.specs.Inside.{Brings}
 use Rattle.part_store.specs.Standing.{AddsVerified, IsEntryAt, IsStored, Makes, Stands}
 use Rattle.part_store.proofs.Commits.{commits_shown, committed_made, brought_store}
+use Rattle.part_store.proofs.RolledBack.{given_up}
 use Rattle.part_store.proofs.store.PartStore.remove_entry.Goals as goal
 
 abbrev MayRemove : List ℕ → ℕ → State → Trees → Type 0
@@ -51,3 +53,13 @@ returns-clause-writes g c =
       unchanged = search rules;
       survives = survives;
     }
+
+pub returns-in_err-take_entry-clause-writes : goal.returns-in_err-take_entry-clause-writes
+returns-in_err-take_entry-clause-writes g c =
+    let new = c.drop-tx.new.self.0 in
+    let change = without_entry c.args.user.now c.args.number in
+    let commits = MayRemove c.args.user.now c.args.number in
+    let within = c.take_entry.ensures.within in
+    subst (λ h. WritesStore g.S.Store h new c.from_residual.result change commits) c.self.view_is
+    (given_up g.S.Store c.self.inside.conn _ c.take_entry.new.tx.conn.now new c.begin-tx.ensures.begun c.begin-tx.ensures.settled within.survives within.stays_closed within.kept c.drop-tx.ensures.survives c.drop-tx.ensures.undone
+    c.from_residual.result _ change commits c.from_residual.ensures.1)

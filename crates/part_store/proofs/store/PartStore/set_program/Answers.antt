@@ -4,9 +4,10 @@ use Rattle.sqlite.specs.State.{HasCleanDisk, Survives}
 use Rattle.part_store.specs.Entries.{with_program}
 use Rattle.part_store.specs.Refusals.{refusal_of, OnlyWhenFailedOrNoUserRoom, HasNoUserRoom}
 use Rattle.part_store.specs.Inside.{Brings}
-use Rattle.part_store.specs.Access.{MayMakeOpen}
+use Rattle.part_store.specs.Access.{MayMakeOpen, WritesStore}
 use Rattle.part_store.specs.Standing.{Makes}
 use Rattle.part_store.proofs.Failing.{dropped}
+use Rattle.part_store.proofs.RolledBack.{given_up}
 use Rattle.part_store.proofs.Runs.{passed}
 use Rattle.part_store.proofs.Stored.{committed_change}
 use Rattle.part_store.proofs.Commits.{committed_made}
@@ -53,3 +54,12 @@ returns-in_err-put_program-clause-refused g c = record {
       subst (λ h. IfErr c.from_residual.result (OnlyWhenFailedOrNoUserRoom user change (state g.S.Store h) new)) c.self.view_is
       (passed c.from_residual.result _ _ c.from_residual.ensures.1 (dropped g.S.Store c.self.inside.conn mid new (λ before. HasNoUserRoom user (change before)) (refusal_of c.in_err-put_program.field-0.0) c.drop-tx.ensures.survives cause));
 }
+
+pub returns-in_err-put_program-clause-writes : goal.returns-in_err-put_program-clause-writes
+returns-in_err-put_program-clause-writes g c =
+    let new = c.drop-tx.new.self.0 in
+    let change = with_program c.args.user.now c.args.program.now in
+    let within = c.put_program.ensures.within in
+    subst (λ h. WritesStore g.S.Store h new c.from_residual.result change (MayMakeOpen change)) c.self.view_is
+    (given_up g.S.Store c.self.inside.conn _ c.put_program.new.tx.conn.now new c.begin-tx.ensures.begun c.begin-tx.ensures.settled within.survives within.stays_closed within.kept c.drop-tx.ensures.survives c.drop-tx.ensures.undone
+    c.from_residual.result _ change (MayMakeOpen change) c.from_residual.ensures.1)
