@@ -2,7 +2,7 @@
 //
 // Contracts see whether a field is folded, so that they can say when a value is lent. The code keeps two slices of
 // the text, and `unfold` looks for the first break again.
-ghost use Rattle.std.specs.Prelude.{◌≡◌, ◌↔◌, ◌≤◌, false, IsTrue, IfOk, IsOk, length};
+ghost use Rattle.std.specs.Prelude.{◌≡◌, ◌↔◌, ◌≤◌, ◌++◌, false, IsTrue, IfOk, IsOk, OnOk, length};
 ghost use Rattle.std.specs.Cow.{cow_slice_items, IsBorrowedSlice};
 ghost use Rattle.octets.specs.Ascii.{EqualIgnoringCase};
 ghost use Rattle.octets.specs.Blank.{without_outer_blanks, without_trailing_blanks};
@@ -15,6 +15,9 @@ use std::alloc::{AllocError, Global};
 use std::borrow::CowSlice;
 use std::marker::Model;
 use text_lines::Lines;
+
+/// A piece of at most so many bytes is copied byte by byte, because a call that copies takes longer.
+const SHORT: usize = 4;
 
 /// A field of a header, over bytes that are lent: nothing is copied.
 ///
@@ -67,7 +70,15 @@ pub fn name_is(field: &Field, name: &[u8]) -> bool
     let Some(start) = field.lines.get(..name.len()) else {
         return false;
     };
-    equal_ignoring_case(start, name) && has_name_of_length(field.lines, name.len())
+    are_same(start, name) && has_name_of_length(field.lines, name.len())
+}
+
+// Whether the names are equal; ASCII case is ignored. Most names that are equal are written alike.
+#[inline(always)]
+fn are_same(a: &[u8], b: &[u8]) -> bool
+    ensures { IsTrue result ↔ EqualIgnoringCase a.now b.now }
+{
+    a == b || equal_ignoring_case(a, b)
 }
 
 /// Returns the field's value: the text after its colon, unfolded, without spaces and tabs at its ends (RFC 5322,
@@ -137,12 +148,27 @@ fn joined(alloc: Global, text: &[u8], most: usize) -> Result<Vec<u8>, AllocError
             content
         };
         let (taken, _) = more.split_at(more.len().min(most - start.len()));
-        start.extend_from_slice(taken)?;
+        append(&mut start, taken)?;
         if start.len() == most {
             return Ok(without_last_blanks(start));
         }
     }
     Ok(without_last_blanks(start))
+}
+
+// Appends a piece.
+#[inline(always)]
+fn append(octets: &mut Vec<u8>, piece: &[u8]) -> Result<(), AllocError>
+    ensures { OnOk result (octets.new.items ≡ octets.old.items ++ piece.now) }
+{
+    if piece.len() > SHORT {
+        octets.extend_from_slice(piece)?;
+        return Ok(());
+    }
+    'piece: for octet in piece {
+        octets.push(*octet)?;
+    }
+    Ok(())
 }
 
 // The bytes without the blanks at their end.

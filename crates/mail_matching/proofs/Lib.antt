@@ -4,6 +4,7 @@ pub mod Keeping
 pub mod Lengths
 pub mod NotContained
 pub mod NotFitting
+pub mod OneByOne
 pub mod Onward
 pub mod Pairs
 pub mod QuestionLemmas

@@ -1,11 +1,11 @@
 // A value and the keys of a test.
-ghost use Rattle.std.specs.Prelude.{◌≡◌, ◌≤◌, ◌∷◌, [], ℕ, List, false, IsOk, None, OnOk, Some, length, if◌then◌else◌};
+ghost use Rattle.std.specs.Prelude.{◌≡◌, ◌≤◌, ◌∷◌, [], ℕ, List, false, IsOk, OnOk, length};
 ghost use Rattle.std.specs.Cow.{IsBorrowedSlice, cow_slice_items};
 ghost use Rattle.octets.specs.Limits.{max_message, max_string};
 ghost use Rattle.glob_match.specs.Containment.{contains_match};
 ghost use Rattle.mail_matching.specs.Bigrams.{Covers};
-ghost use Rattle.mail_matching.specs.Findings.{finding_of, is_matched_by, key_of};
-ghost use Rattle.mail_matching.specs.FirstMatch.{KeepsCaptures, after_match, first_key};
+ghost use Rattle.mail_matching.specs.Findings.{finding_of, key_of};
+ghost use Rattle.mail_matching.specs.FirstMatch.{KeepsCaptures, first_key};
 ghost use Rattle.mail_matching.specs.Outcomes.{after, holds};
 ghost use Rattle.mail_matching.specs.Private.{after_compared, containing, equalling, fitting, further, key_in};
 ghost use Rattle.mail_matching.specs.Texts.{AreTexts};
@@ -134,25 +134,22 @@ pub(crate) fn first_comparison<'k, K: Texts>(value: &[u8], keys: &'k K, how: Mat
 {
     let has_set = is_worth_a_set(value.len(), keys.count());
     match how.kind {
-        MatchType::Is => return first_equal(value, keys, how.comparator),
+        MatchType::Is => first_equal(value, keys, how.comparator),
         MatchType::Contains => {
             if has_set {
-                return first_contained(value, keys, how.comparator);
+                first_contained(value, keys, how.comparator)
+            } else {
+                first_contained_of_few(value, keys, how.comparator)
             }
         }
         MatchType::Matches => {
             if has_set {
-                return first_fitting(value, keys, how.comparator);
+                first_fitting(value, keys, how.comparator)
+            } else {
+                first_fitting_of_few(value, keys, how.comparator)
             }
         }
     }
-    for place in 0..keys.count() {
-        match compare(value, keys.text(place), how) {
-            Compared::Differs => {}
-            found => return found,
-        }
-    }
-    Compared::Differs
 }
 
 // Whether a set of a value's bigrams saves more time than it takes.
@@ -180,9 +177,32 @@ fn first_equal<'k, K: Texts>(value: &[u8], keys: &'k K, comparator: Comparator) 
     Compared::Differs
 }
 
-// The same for `:contains`, without a search for keys that the value's bigrams rule out. It isn't inlined, because its
-// caller would clear the room of the set for each value, with one key, too. What sets captures has a function of its
-// own, because room for them would be cleared here, too.
+// The same for `:contains`, without a set. Each way to compare has a loop of its own: one loop for all of them would
+// clear room for captures for each key.
+#[inline(always)]
+fn first_contained_of_few<'k, K: Texts>(
+    value: &[u8],
+    keys: &'k K,
+    comparator: Comparator,
+) -> Compared<'k>
+    requires value { length value.now ≤ max_message }
+    requires keys { AreTexts (K.texts keys.now) }
+    ensures captures { (captures : List (List ℕ))
+        → after_compared value.now result captures
+        ≡ first_key (containing comparator) value.now (K.texts keys.now) captures }
+    ensures key { key_in result ≡ key_of (containing comparator) value.now (K.texts keys.now) }
+{
+    'places: for place in 0..keys.count() {
+        let key = keys.text(place);
+        if contains_key(value, key, comparator) {
+            return Compared::Matches(key);
+        }
+    }
+    Compared::Differs
+}
+
+// The same without a search for keys that the value's bigrams rule out. It isn't inlined, because its caller would
+// clear the room of the set for each value, with one key, too.
 #[inline(never)]
 fn first_contained<'k, K: Texts>(value: &[u8], keys: &'k K, comparator: Comparator) -> Compared<'k>
     requires value { length value.now ≤ max_message }
@@ -210,10 +230,44 @@ fn contains_by_bigrams(bigrams: &Bigrams, value: &[u8], key: &[u8], comparator: 
     requires key { length key.now ≤ max_string }
     ensures { result ≡ contains_match comparator value.now key.now }
 {
-    bigrams.may_contain(key) && contains(value, key, comparator).0
+    bigrams.may_contain(key) && contains_key(value, key, comparator)
 }
 
-// The same for `:matches`, without comparing the value with keys that its bigrams rule out.
+// Whether the value contains the key.
+#[inline(always)]
+fn contains_key(value: &[u8], key: &[u8], comparator: Comparator) -> bool
+    requires value { length value.now ≤ max_message }
+    requires key { length key.now ≤ max_string }
+    ensures { result ≡ contains_match comparator value.now key.now }
+{
+    contains(value, key, comparator).0
+}
+
+// The same for `:matches`, without a set. It isn't inlined, because its caller would clear the room of the captures for
+// other tests, too.
+#[inline(never)]
+fn first_fitting_of_few<'k, K: Texts>(
+    value: &[u8],
+    keys: &'k K,
+    comparator: Comparator,
+) -> Compared<'k>
+    requires value { length value.now ≤ max_message }
+    requires keys { AreTexts (K.texts keys.now) }
+    ensures captures { (captures : List (List ℕ))
+        → after_compared value.now result captures
+        ≡ first_key (fitting comparator) value.now (K.texts keys.now) captures }
+    ensures key { key_in result ≡ key_of (fitting comparator) value.now (K.texts keys.now) }
+{
+    'places: for place in 0..keys.count() {
+        let key = keys.text(place);
+        if let Some(found) = matches(value, key, comparator).0 {
+            return Compared::Sets(key, found);
+        }
+    }
+    Compared::Differs
+}
+
+// The same without comparing the value with keys that its bigrams rule out.
 #[inline(never)]
 fn first_fitting<'k, K: Texts>(value: &[u8], keys: &'k K, comparator: Comparator) -> Compared<'k>
     requires value { length value.now ≤ max_message }
@@ -233,37 +287,4 @@ fn first_fitting<'k, K: Texts>(value: &[u8], keys: &'k K, comparator: Comparator
         }
     }
     Compared::Differs
-}
-
-// The result of a comparison that sets no captures.
-fn matched(value_is_key: bool, key: &[u8]) -> Compared<'_>
-    ensures captures { (value : List ℕ) (captures : List (List ℕ))
-        → after_compared value result captures ≡ (if value_is_key then Some captures else None) }
-    ensures key { key_in result ≡ (if value_is_key then Some key.now else None) }
-{
-    if value_is_key {
-        Compared::Matches(key)
-    } else {
-        Compared::Differs
-    }
-}
-
-// Whether the value matches the key, and with which captures.
-#[inline(always)]
-fn compare<'k>(value: &[u8], key: &'k [u8], how: Match) -> Compared<'k>
-    requires value { length value.now ≤ max_message }
-    requires key { length key.now ≤ max_string }
-    ensures captures { (captures : List (List ℕ))
-        → after_compared value.now result captures ≡ after_match how value.now key.now captures }
-    ensures key { key_in result
-        ≡ (if is_matched_by how.kind how.comparator value.now key.now then Some key.now else None) }
-{
-    match how.kind {
-        MatchType::Is => matched(is(value, key, how.comparator).0, key),
-        MatchType::Contains => matched(contains(value, key, how.comparator).0, key),
-        MatchType::Matches => match matches(value, key, how.comparator).0 {
-            Some(stretches) => Compared::Sets(key, stretches),
-            None => Compared::Differs,
-        },
-    }
 }

@@ -1,5 +1,5 @@
 // The part that a line is about, in words.
-ghost use Rattle.std.specs.Prelude.{◌≡◌, ◌<◌, ◌++◌, length, None, Option, ℕ, Some, IfOk, OnOk, slice_get};
+ghost use Rattle.std.specs.Prelude.{◌≡◌, ◌<◌, ◌++◌, length, None, Option, ℕ, Some, IfOk, IsOk, OnOk, slice_get};
 ghost use Rattle.sieve_trace.specs.Printed.{media_of, part_text};
 
 use crate::words::push_number;
@@ -77,10 +77,11 @@ impl<'a, 'm> Scene<'a, 'm> {
     ///
     /// # Errors
     ///
-    /// `AllocError` if memory is refused.
+    /// `AllocError` if memory is refused. None is taken if the scene is at this part.
     pub fn move_to(&mut self, part: Option<usize>) -> Result<(), AllocError>
         ensures message { self.new.message.now ≡ self.old.message.now }
         ensures part { OnOk result (self.new.part ≡ part) }
+        ensures known { self.old.part ≡ part → IsOk result }
     {
         if self.part == part {
             return Ok(());

@@ -25,9 +25,9 @@ loop-line-preserved c =
       | then-is_empty w ↦ inl (sym c.loop-line.start.ok.0 ∙ eqb-true _ _ (sym c.is_empty.ensures ∙ w.if-is_empty.true), ap (λ x. x.now) w.more-is ∙ w.trim_leading_blanks-more.ensures)
       | else-is_empty w ↦ inr (omega (arith, c.loop-line.start.ok.0, eqb-false _ _ (sym c.is_empty.ensures ∙ w.if-is_empty.false)), ap (λ x. x.now) w.more-is)
     ]) was.trimmed (rw left at was.so_far) in
-    let items = c.in_ok-extend_from_slice.ensures.items in
+    let items = c.in_ok-append.ensures in
     let front = c.split_at.ensures.front in
-    let long : length c.extend_from_slice.new.self.items ≡ length value + length (take n more) = ap length items ∙ length-append value c.split_at.result.0.now ∙ ap (λ t. length value + length t) front in
+    let long : length c.append.new.octets.items ≡ length value + length (take n more) = ap length items ∙ length-append value c.split_at.result.0.now ∙ ap (λ t. length value + length t) front in
     let full : n ≡ length more =
     omega (
       arith,
@@ -36,7 +36,7 @@ loop-line-preserved c =
       c.min-in-loop-line.ensures,
       c.len.ensures,
       c.loop-line.start.ok.0,
-      c.extend_from_slice.new.self.ok.0,
+      c.append.new.octets.ok.0,
       c.len-in-loop-line.ensures,
       c.if-len-most.false,
       was.few,
@@ -64,8 +64,8 @@ returns-then-len-most c =
       | then-is_empty w ↦ inl (sym c.loop-line.start.ok.0 ∙ eqb-true _ _ (sym c.is_empty.ensures ∙ w.if-is_empty.true), ap (λ x. x.now) w.more-is ∙ w.trim_leading_blanks-more.ensures)
       | else-is_empty w ↦ inr (omega (arith, c.loop-line.start.ok.0, eqb-false _ _ (sym c.is_empty.ensures ∙ w.if-is_empty.false)), ap (λ x. x.now) w.more-is)
     ]) was.trimmed (rw left at was.so_far) in
-    let items = c.in_ok-extend_from_slice.ensures.items ∙ ap (λ t. value ++ t) c.split_at.ensures.front in
-    let size : length (value ++ take n more) ≡ c.args.most = sym (ap length items) ∙ sym c.extend_from_slice.new.self.ok.0 ∙ sym c.len-in-loop-line.ensures ∙ c.if-len-most.true in
+    let items = c.in_ok-append.ensures ∙ ap (λ t. value ++ t) c.split_at.ensures.front in
+    let size : length (value ++ take n more) ≡ c.args.most = sym (ap length items) ∙ sym c.append.new.octets.ok.0 ∙ sym c.len-in-loop-line.ensures ∙ c.if-len-most.true in
     c.without_last_blanks.ensures ∙ ap without_trailing_blanks items
     ∙ filled c.args.most n value more rest (without_breaks text) joined.0 joined.1 (omega (arith, c.min-in-loop-line.ensures)) size
 

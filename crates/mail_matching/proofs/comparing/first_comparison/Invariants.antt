@@ -1,9 +1,0 @@
-use Rattle.std.proofs.Common.{◌≡◌, ℕ, List, drop}
-use Rattle.mail_matching.specs.Findings.{key_of}
-use Rattle.mail_matching.specs.FirstMatch.{first_key}
-use Rattle.mail_matching.proofs.comparing.first_comparison.Given as goal
-
-abbrev pub invariant-loop-place : goal.invariant-loop-place
-invariant-loop-place g l =
-    ((captures : List (List ℕ)) → first_key l.how l.value (drop l.place (g.K.Texts.texts l.keys)) captures ≡ first_key l.how l.value (g.K.Texts.texts l.keys) captures)
-    × (key_of l.how l.value (drop l.place (g.K.Texts.texts l.keys)) ≡ key_of l.how l.value (g.K.Texts.texts l.keys))
