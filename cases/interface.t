@@ -58,6 +58,48 @@ Only if: command -v flock # there is no flock
     $ sh examples/attachments.sh mail.depot ann saved && python3 examples/attachments.py mail.depot ann same && diff -r saved same
     $ rm -r saved same filter
 
+## each stored part of the gallery's mails, linked to the mail that was delivered with it
+Only if: command -v flock # there is no flock
+
+`7x4` is the mail with the number 7, to which four stored parts are linked. What `deliver` printed is compared with what both scripts find.
+    $ cat > each.sieve << 'END'
+    > require ["foreverypart", "vnd.depot"];
+    > foreverypart { store "Parts"; }
+    > END
+    $ cat > mail-first.sieve << 'END'
+    > require ["fileinto", "foreverypart", "vnd.depot"];
+    > fileinto "Mail";
+    > foreverypart { store "Parts"; }
+    > END
+    $ cat > link << 'END'
+    > depot script mail.depot $1 $2 > /dev/null && depot script mail.depot $1.py $2 > /dev/null
+    > for mail in examples/gallery/*.eml; do
+    >     depot deliver mail.depot $1 $mail > answer
+    >     awk '$2 == "part" { part[$1] } $2 == "message" { mail = $1 } END { for (it in part) print it, mail }' answer
+    > done | sort -n > told
+    > sh examples/attachments.sh mail.depot $1 saved
+    > python3 examples/attachments.py mail.depot $1 same && diff -r saved same
+    > python3 examples/attachments.py mail.depot $1.py delivered examples/gallery/*.eml && diff -r saved delivered
+    > find saved -name '*-*' | sed 's,saved/\([^/]*\)/\([0-9]*\)-.*,\2 \1,' | sort -n > linked
+    > diff told linked && echo "$1:" $(cut -d ' ' -f 2 linked | sort -n | uniq -c | awk '{ print $2 "x" $1 }')
+    > rm -r same delivered answer told linked
+    > END
+    $ for filter in each mail-first; do sh link $filter $filter.sieve && rm -r saved; done
+    each: 2x1 7x4 9x1 14x4 18x3 20x1 25x4 27x1 31x3 33x1 38x4 40x1 42x1 46x3 51x4 53x1 55x1 59x3 63x3 67x3 69x1 71x1 73x1 75x1
+    mail-first: 1x1 3x4 8x1 10x4 15x3 19x1 21x4 26x1 28x3 32x1 34x4 39x1 41x1 43x3 47x4 52x1 54x1 56x3 60x3 64x3 68x1 70x1 72x1 74x1
+    $ for filter in attachments forms invitations invoices; do sh link $filter examples/gallery/$filter.sieve && find saved -name '*-*' | LC_ALL=C sort && rm -r saved; done
+    attachments: 3x1
+    saved/3/2-roof.png
+    forms: 11x2
+    saved/11/12-form.txt
+    saved/11/13-printer.log
+    invitations: 15x1
+    saved/15/14-
+    invoices: 15x2
+    saved/15/16-invoice-2026-118.pdf
+    saved/15/17-invoice-2026-118.xml
+    $ rm each.sieve mail-first.sieve link
+
 ## a mail before its parts, names that lead elsewhere, and parts without a mail
 Only if: command -v flock # there is no flock
     $ for name in '../../out' '-rf' "$(printf '%0300d' 0).pdf" ''; do

@@ -216,6 +216,92 @@ Listings by hand.
     2> refused 25 Jump at 1
     [1]
 
+## blanks, comments, zeros before a number, no places, and fields in another order
+    $ cat > listing << 'END'
+    > version 2
+    > variables 1
+    > number 1048576
+    > string "a\00a\22b"
+    > 0 LIT ; "a\00a\22b"
+    > 1 HEADER a 1 b 2 c 3 ; a contains casemap message value c 0 params 3 keys
+    > 2 OP ff
+    > END
+    $ depot assemble listing out
+    wrote 54 octets
+    $ depot disassemble out
+    version 2
+    variables 1
+    number 1048576
+    string "a\00a\22b"
+    0 LIT ; "a\00a\22b"
+    1 HEADER a 1 b 2 c 3 ; a contains casemap message value c 0 params 3 keys
+    2 OP ff ; refused 22 Form
+    ; refused 22 Form at 2
+    $ printf 'version 02 ; of two\n variables\t1 number 1048576 string\n"a\\00a\\22b" LIT a 0\r\n' > listing
+    $ printf '1 HEADER c 003 a 1 b 2 OP FF' >> listing
+    $ depot assemble listing other
+    wrote 54 octets
+    $ cmp out other
+
+## words of tests, in any order, and some of them left out
+    $ cat > listing << 'END'
+    > version 1 variables 0 HEADER c 2 params 1 keys b 1 a matches octet part param
+    > EXISTS a below b 1 STRING c 3 keys a is PARTBODY a octet c 1 keys
+    > END
+    $ depot assemble listing out
+    wrote 47 octets
+    $ depot disassemble out
+    version 1
+    variables 0
+    0 HEADER a 142 b 1 c 131073 ; a matches octet part param c 2 params 1 keys
+    1 EXISTS a 2 b 1 ; a below
+    2 STRING c 3 ; a is casemap ; refused 22 Form
+    3 PARTBODY a 4 c 1 ; a is octet
+    ; refused 22 Form at 2
+    $ depot disassemble out > listing
+    $ depot assemble listing other
+    wrote 47 octets
+    $ cmp out other
+
+## labels before and after they are used, two at a place, and one after the last instruction
+    $ cat > listing << 'END'
+    > version 1 variables 0 label start JT c end label two label again LIT c 7
+    > JF c two JMP c start EACH c again label end
+    > END
+    $ depot assemble listing out
+    wrote 55 octets
+    $ depot disassemble out
+    version 1
+    variables 0
+    0 JT c 5
+    1 LIT c 7 ; refused 21 Index
+    2 JF c 1 ; to 1
+    3 JMP ; to 0
+    4 EACH c 1
+    ; refused 21 Index at 1
+
+## strings in the places of numbers: listed ones, one of them twice, and new ones
+    $ cat > listing << 'END'
+    > version 1 variables 0 string "a" string "b" string "a" LIT c "b"
+    > LIT c "new" LIT c "a" LIT c "new" LIT c "\4e"
+    > END
+    $ depot assemble listing out
+    wrote 72 octets
+    $ depot disassemble out
+    version 1
+    variables 0
+    string "a"
+    string "b"
+    string "a"
+    string "new"
+    string "N"
+    0 LIT c 1 ; "b"
+    1 LIT c 3 ; "new"
+    2 LIT ; "a"
+    3 LIT c 3 ; "new"
+    4 LIT c 4 ; "N" ; refused 23 End
+    ; refused 23 End at 4
+
 ## from standard input
     $ printf 'version 1 variables 0 KEEP HALT' | depot assemble /dev/stdin out
     wrote 31 octets
@@ -276,6 +362,52 @@ Faults of listings.
     2> refused 28 Listing at 0
     [1]
 
+## the places of faults
+    $ cat > listings << 'END'
+    > version 3
+    > version 1 variables 129
+    > version 1 variables 0 LIT d 1
+    > version 1 variables 0 LIT a 256
+    > version 1 variables 0 LIT a 1 a 1
+    > version 1 variables 0 1 LIT
+    > version 1 variables 0 string "a\0g"
+    > version 1 variables 0 lit
+    > version 1 variables 0 LIT a is
+    > version 1 variables 0 HEADER a part is
+    > version 1 variables 0 HEADER c 65536 params 1 keys
+    > version 1 ; variables 0
+    > END
+    $ while read -r line; do printf %s "$line" > listing; depot assemble listing out 2>&1 > said; done < listings
+    refused 28 Listing at 8
+    refused 28 Listing at 20
+    refused 28 Listing at 26
+    refused 28 Listing at 28
+    refused 28 Listing at 30
+    refused 28 Listing at 22
+    refused 28 Listing at 29
+    refused 28 Listing at 22
+    refused 28 Listing at 28
+    refused 28 Listing at 36
+    refused 28 Listing at 37
+    refused 28 Listing at 23
+    [1]
+    $ rm said
+
+## the places of faults of labels
+    $ cat > listings << 'END'
+    > version 1 variables 0 label 1a HALT
+    > version 1 variables 0 JMP c x label a label a
+    > version 1 variables 0 JMP c x label a JT c y
+    > version 1 variables 0 JMP c x label a lit
+    > END
+    $ while read -r line; do printf %s "$line" > listing; depot assemble listing out 2>&1 > said; done < listings
+    refused 28 Listing at 28
+    refused 28 Listing at 44
+    refused 28 Listing at 28
+    refused 28 Listing at 38
+    [1]
+    $ rm said
+
 ## a script
     $ depot assemble examples/pager.sieve out | sed -n 1p | cut -c 1-36
     examples/pager.sieve:1:1: error: `#`
@@ -306,6 +438,8 @@ Faults of listings.
     $ { echo version 1 variables 0; yes HALT | head -n 65536; } > listing
     $ depot assemble listing out
     wrote 524303 octets
+    $ depot disassemble out | grep -c HALT
+    65536
     $ { echo version 1 variables 0; yes HALT | head -n 65537; } > listing
     $ depot assemble listing out
     listing:65539:1: error: the program exceeds the limits for programs
@@ -314,6 +448,32 @@ Faults of listings.
     2> refused 28 Listing at 327707
     [1]
 
+## as many labels as there may be, each used far from its place
+    $ awk 'BEGIN { print "version 1 variables 0"; for (i = 0; i < 65536; i++) printf "label n%05d JMP c n%05d\n", i, 65535 - i }' > listing
+    $ depot assemble listing out
+    wrote 524303 octets
+    $ depot disassemble out | awk '$2 == "JMP" { n++; if (($3 == "c" ? $4 : 0) != 65535 - $1) print } END { print n }'
+    65536
+
+## as many bytes as there may be, and one more
+    $ { echo 'version 1 variables 0'; yes "string \"$(printf %016384d 0)\"" | head -n 255; printf 'string "%015849d"\nHALT\n' 0; } > listing
+    $ depot assemble listing out
+    wrote 4194304 octets
+    $ depot disassemble out | grep -c '^string'
+    256
+    $ depot verify out
+    A0=1 B0=0 A1=0 B1=0 A2=0 B2=0 A3=0 B3=0
+    $ { cat out; printf '\0'; } > longer
+    $ depot verify longer
+    2> refused 20 Spelling
+    [1]
+    $ sed -i '257s/"0/"00/' listing
+    $ depot assemble listing out
+    listing:259:1: error: the program exceeds the limits for programs
+    1>   
+      ^
+    2> refused 28 Listing at 4196357
+    [1]
 ## a listing that is as large as may be, and one that is too large
     $ { echo 'version 1 variables 0 HALT'; yes ' ' | head -c 67108837; } > listing
     $ depot assemble listing out

@@ -63,6 +63,9 @@ Octets that begin with SVBC are taken for a program.
     13 HALT | 1 31
     keep
     charged 31 of 4289
+    $ depot run program message
+    keep
+    charged 31 of 4289
 
 ## loops in one another, left at once
     $ cat > listing << 'END'
@@ -105,6 +108,47 @@ Octets that begin with SVBC are taken for a program.
     16 HALT | 1 29
     fileinto "hel\00\22\ff"
     charged 29 of 8240
+    $ depot run program message
+    fileinto "hel\00\22\ff"
+    charged 29 of 8240
+
+Both loops go on to their ends where no part is long enough.
+
+    $ printf 'Content-Type: multipart/mixed; boundary=o\n\n--o\n\nx\n--o\n\ny\n--o--\n' > message
+    $ depot trace program message
+    0 BOOL a 1 | 1 1 | yes
+    1 NOT | 1 2 | no
+    2 JT c 16 | 1 3 | no
+    3 EACH c 11 | 1 4 | part 0
+    4 EACH c 9 | 1 5 | part 1
+    5 TAKE b 3 | 2 7 | part 1 | "x"
+    6 PARTSIZE | 1 8 | part 1 | no
+    7 JF c 9 | 1 9 | part 1 | no
+    9 NEXT c 4 | 1 10 | part 2
+    5 TAKE b 3 | 2 12 | part 2 | "y"
+    6 PARTSIZE | 1 13 | part 2 | no
+    7 JF c 9 | 1 14 | part 2 | no
+    9 NEXT c 4 | 1 15 | part 0
+    10 KEEP | 1 16 | part 0
+    11 NEXT c 3 | 1 17 | part 1
+    4 EACH c 9 | 1 18 | part 1
+    10 KEEP | 1 19 | part 1
+    11 NEXT c 3 | 1 20 | part 2
+    4 EACH c 9 | 1 21 | part 2
+    10 KEEP | 1 22 | part 2
+    11 NEXT c 3 | 1 23
+    12 VAR | 1 24 | "y"
+    13 LIT | 1 25 | "\00\22\ff"
+    14 JOIN b 2 | 5 30 | "y\00\22\ff"
+    15 FILE | 5 35 | "y\00\22\ff"
+    16 HALT | 1 36
+    keep
+    fileinto "y\00\22\ff"
+    charged 36 of 8240
+    $ depot run program message
+    keep
+    fileinto "y\00\22\ff"
+    charged 36 of 8240
 
 ## what the steps charge is together what the run charges
     $ depot trace examples/documents.svbc examples/invoice.eml | awk -F ' [|] ' 'NF > 1 { split($2, n, " "); sum += n[1]; if (sum != n[2]) print } END { print sum }'
@@ -121,6 +165,38 @@ Octets that begin with SVBC are taken for a program.
     wrote 141 octets
     $ depot trace program /dev/null | sed -n 1p
     0 LIT | 1 1 | "00000000000000000000000000000000000000000000000000000000000000000000000000000000"..
+
+## a text of 81 bytes
+    $ printf 'version 1 variables 0 LIT c "%s" FILE HALT' "$(printf %081d 0 | tr 0 a)" > listing
+    $ depot assemble listing program
+    wrote 122 octets
+    $ depot trace program /dev/null
+    0 LIT | 1 1 | "aaaaaaaaaaaaaaaaaaaaaaaaaaaaaaaaaaaaaaaaaaaaaaaaaaaaaaaaaaaaaaaaaaaaaaaaaaaaaaaa"..
+    1 FILE | 82 83 | "aaaaaaaaaaaaaaaaaaaaaaaaaaaaaaaaaaaaaaaaaaaaaaaaaaaaaaaaaaaaaaaaaaaaaaaaaaaaaaaa"..
+    2 HALT | 1 84
+    fileinto "aaaaaaaaaaaaaaaaaaaaaaaaaaaaaaaaaaaaaaaaaaaaaaaaaaaaaaaaaaaaaaaaaaaaaaaaaaaaaaaaa"
+    charged 84 of 84
+    $ depot run program /dev/null
+    fileinto "aaaaaaaaaaaaaaaaaaaaaaaaaaaaaaaaaaaaaaaaaaaaaaaaaaaaaaaaaaaaaaaaaaaaaaaaaaaaaaaaa"
+    charged 84 of 84
+
+## a loop over 1,000 parts
+    $ { printf 'Content-Type: multipart/mixed; boundary=o\n\n'; yes -- "$(printf -- '--o\n\nx')" | head -n 3000; } > message
+    $ printf 'version 1 variables 0 label each EACH c next label next NEXT c each HALT' > listing
+    $ depot assemble listing program
+    wrote 39 octets
+    $ depot trace program message > steps
+    $ sed -n '1,2p;1001,$p' steps
+    0 EACH c 1 | 1 1 | part 0
+    1 NEXT | 1 2 | part 1
+    1 NEXT | 1 1001 | part 1000
+    1 NEXT | 1 1002
+    2 HALT | 1 1003
+    keep
+    charged 1003 of 1003
+    $ depot run program message
+    keep
+    charged 1003 of 1003
 
 ## the steps of the program that a script compiles to
     $ printf 'require "fileinto"; fileinto "a";' > script

@@ -1,78 +1,89 @@
-// Programs, lists of actions and texts as large as they may be, with ample memory: none is refused.
-use bytecode_format::{
-    Action, ActionList, FormatError, Instruction, Operation, Program, final_actions,
-};
-use bytecode_verifier::verify;
+// Lists of actions and texts as large as they may be, with ample memory: none is refused. The largest programs are in
+// `cases/listings.t`.
+use bytecode_format::{Action, ActionList, final_actions};
 use octets::{Octets, to_lowercase, to_uppercase};
-use std::alloc::Global;
+use std::alloc::{AllocError, Global};
 use std::test::Fail;
 
-/// How many octets a string of a program has at most.
-const LONGEST_STRING: usize = 16_384;
-
-/// How many octets a program has at most.
-const LONGEST_PROGRAM: usize = 4_194_304;
-
-// A program of strings of these lengths, and HALT.
-fn of_strings(alloc: Global, lengths: &[usize]) -> Result<Result<Program, FormatError>, Fail> {
-    let mut strings = Vec::new(alloc);
-    for length in lengths {
-        strings.push(Octets::from_vec(vec![in alloc; b'x'; *length]?))?;
-    }
-    let halt = Instruction {
-        op: Operation::Halt.octet(),
-        a: 0,
-        b: 0,
-        c: 0,
-    };
-    let halt = [halt].to_vec(alloc)?;
-    Ok(Program::build(1, 0, Vec::new(alloc), strings, halt))
+// The action that stores a part in a folder.
+fn store(alloc: Global, part: usize) -> Result<Action, AllocError> {
+    let folder = b"att".to_vec(alloc)?;
+    Ok(Action::Store(Octets::from_vec(folder), part))
 }
 
-// 15 octets of heading and 8 of HALT; each string is two octets longer than its text.
-#[test]
-fn as_many_octets_as_there_may_be(rt: HostRuntime) -> Result<(), Fail> {
-    let alloc = rt.alloc();
-    let mut lengths = vec![in alloc; LONGEST_STRING; 256]?;
-    lengths[255] = LONGEST_PROGRAM - 15 - 8 - 255 * (LONGEST_STRING + 2) - 2;
-    let Ok(built) = of_strings(alloc, &lengths)? else {
-        return Err(Fail::from("refused"));
-    };
-    let mut octets = built.write(alloc)?;
-    assert_eq!(rt; octets.len(), LONGEST_PROGRAM);
-    let read = Program::read(alloc, &octets)?;
-    assert_eq!(rt; read.strings().len(), 256);
-    assert!(rt; verify(alloc, read).is_ok());
-    octets.push(0)?;
-    assert!(rt; matches!(Program::read(alloc, &octets), Err(FormatError::Spelling)));
-    lengths[255] += 1;
-    assert!(rt; of_strings(alloc, &lengths)?.is_err());
-    Ok(())
-}
-
-#[test]
-fn many_actions(rt: HostRuntime) -> Result<(), Fail> {
-    let alloc = rt.alloc();
+// A list to which two actions for each of 10,000 parts were added.
+fn list_of_stores(alloc: Global) -> Result<ActionList, AllocError> {
     let mut list = ActionList::new(alloc);
+    for part in 0..20_000 {
+        list.push(store(alloc, part % 10_000)?)?;
+    }
+    Ok(list)
+}
+
+// Those actions.
+fn stores(alloc: Global) -> Result<Vec<Action>, AllocError> {
     let mut actions = Vec::new(alloc);
     for part in 0..20_000 {
-        let folder = Octets::from_vec(b"att".to_vec(alloc)?);
-        actions.push(Action::Store(folder.clone()?, part % 10_000))?;
-        list.push(Action::Store(folder, part % 10_000))?;
+        actions.push(store(alloc, part % 10_000)?)?;
     }
-    assert_eq!(rt; list.into_final(true)?.len(), 10_001);
-    assert_eq!(rt; final_actions(alloc, actions, false)?.len(), 10_000);
-    Ok(())
+    Ok(actions)
+}
+
+// Whether a final list has so many actions.
+fn has(actions: Result<Vec<Action>, AllocError>, number: usize) -> bool {
+    match actions {
+        Ok(actions) => actions.len() == number,
+        Err(_) => false,
+    }
+}
+
+// Whether the first action on each part is kept, and the implicit keep.
+fn keeps_all(alloc: Global) -> bool {
+    match list_of_stores(alloc) {
+        Ok(list) => has(list.into_final(true), 10_001),
+        Err(_) => false,
+    }
+}
+
+// Whether it is where the list is made at once, without the implicit keep.
+fn keeps_all_at_once(alloc: Global) -> bool {
+    match stores(alloc) {
+        Ok(actions) => has(final_actions(alloc, actions, false), 10_000),
+        Err(_) => false,
+    }
+}
+
+#[test]
+fn many_actions(rt: HostRuntime) {
+    assert!(rt; keeps_all(rt.alloc()));
+    assert!(rt; keeps_all_at_once(rt.alloc()));
+}
+
+// Whether a text in upper case is another, and that is this in lower case.
+fn are_cases(alloc: Global, lower: &[u8], upper: &[u8]) -> bool {
+    is_uppercase(alloc, lower, upper) && is_lowercase(alloc, upper, lower)
+}
+
+fn is_uppercase(alloc: Global, text: &[u8], want: &[u8]) -> bool {
+    match to_uppercase(alloc, text) {
+        Ok(upper) => upper.as_slice() == want,
+        Err(_) => false,
+    }
+}
+
+fn is_lowercase(alloc: Global, text: &[u8], want: &[u8]) -> bool {
+    match to_lowercase(alloc, text) {
+        Ok(lower) => lower.as_slice() == want,
+        Err(_) => false,
+    }
 }
 
 #[test]
 fn case_of_long_texts(rt: HostRuntime) -> Result<(), Fail> {
-    let alloc = rt.alloc();
-    for length in [0, 1, 1_000_000] {
-        let lower = vec![in alloc; b'q'; length]?;
-        let upper = vec![in alloc; b'Q'; length]?;
-        assert_eq!(rt; to_uppercase(alloc, &lower)?.as_slice(), upper.as_slice());
-        assert_eq!(rt; to_lowercase(alloc, &upper)?.as_slice(), lower.as_slice());
-    }
+    let lower = vec![in rt.alloc(); b'q'; 1_000_000]?;
+    let upper = vec![in rt.alloc(); b'Q'; 1_000_000]?;
+    assert!(rt; are_cases(rt.alloc(), b"", b""));
+    assert!(rt; are_cases(rt.alloc(), b"q", b"Q"));
+    assert!(rt; are_cases(rt.alloc(), &lower, &upper));
     Ok(())
 }

@@ -1,7 +1,10 @@
-//! Tests of the bytecode's crates on every small program and on the largest programs that are allowed. The crate
-//! `tables` has the tests that rows of data can describe.
+//! Tests of the bytecode's crates on every small program and on the largest lists and texts that are allowed, and of a
+//! script traced to a sink that fails. The crate `tables` has the tests that rows of data can describe, and `cases` those
+//! of what a command prints.
 #![tactic(auto)]
 
+#[cfg(test)]
+mod failing_sink;
 #[cfg(test)]
 mod large;
 #[cfg(test)]
@@ -9,6 +12,6 @@ mod listings;
 #[cfg(test)]
 mod plain_loops;
 #[cfg(test)]
-mod small_loops;
+mod programs;
 #[cfg(test)]
-mod traces;
+mod small_loops;

@@ -1,6 +1,5 @@
 // Small programs of loops and jumps, read and run plainly: by the rules' own words, without a stack of brackets.
 use bytecode_format::Instruction;
-use std::alloc::{AllocError, Global};
 
 // The operations of the small programs, and the rules that these may break. They have no fields out of their ranges, no index, and no
 // operation on the current part.
@@ -187,9 +186,50 @@ struct Turn {
     end: usize,
 }
 
+// The open loops, the innermost one last, of which an accepted program has three at most.
+#[derive(Clone, Copy)]
+struct Turns {
+    turns: [Turn; 3],
+    number: usize,
+}
+
+impl Turns {
+    fn none() -> Turns {
+        let turn = Turn {
+            next: 0,
+            part: 0,
+            end: 0,
+        };
+        Turns {
+            turns: [turn; 3],
+            number: 0,
+        }
+    }
+
+    fn last(&self) -> Option<Turn> {
+        self.turns[..self.number.min(3)].last().copied()
+    }
+
+    fn pop(&mut self) -> Option<Turn> {
+        let last = self.last();
+        self.number = self.number.saturating_sub(1);
+        last
+    }
+
+    // Whether there is a place for one more.
+    fn push(&mut self, turn: Turn) -> bool {
+        if self.number >= 3 {
+            return false;
+        }
+        self.turns[self.number] = turn;
+        self.number += 1;
+        true
+    }
+}
+
 // The first part that a loop visits and the one after its last, of so many parts, each with so many below it.
-fn visited(below: &[usize], turns: &[Turn]) -> (usize, usize) {
-    match turns.last() {
+fn visited(below: &[usize], outer: Option<Turn>) -> (usize, usize) {
+    match outer {
         Some(turn) => {
             let first = turn.part.wrapping_add(1);
             let number = below.get(turn.part).copied().unwrap_or(0);
@@ -202,71 +242,77 @@ fn visited(below: &[usize], turns: &[Turn]) -> (usize, usize) {
 // No place of a program.
 const NOWHERE: usize = 1_000_000;
 
-// Where the run goes on after an EACH, a NEXT or a BREAK: nowhere, where no loop is open that these need.
-fn after_loop(
+// Where the run goes on after an EACH that names a place: nowhere, where too many loops are open.
+fn after_each(below: &[usize], turns: &mut Turns, place: usize, next: usize) -> usize {
+    let (part, end) = visited(below, turns.last());
+    if part >= end {
+        return next.wrapping_add(1);
+    }
+    if turns.push(Turn { next, part, end }) {
+        place.wrapping_add(1)
+    } else {
+        NOWHERE
+    }
+}
+
+// Where it goes on after a NEXT: nowhere, where no loop is open.
+fn after_next(turns: &mut Turns, place: usize, each: usize) -> usize {
+    let Some(turn) = turns.pop() else {
+        return NOWHERE;
+    };
+    let part = turn.part.wrapping_add(1);
+    if part < turn.end && turns.push(Turn { part, ..turn }) {
+        each.wrapping_add(1)
+    } else {
+        place.wrapping_add(1)
+    }
+}
+
+// Where it goes on after so many loops are left: nowhere, where fewer are open.
+fn after_break(turns: &mut Turns, place: usize, number: u8) -> usize {
+    let mut after = place.wrapping_add(1);
+    for _ in 0..number {
+        after = match turns.pop() {
+            Some(turn) => turn.next.wrapping_add(1),
+            None => NOWHERE,
+        };
+    }
+    after
+}
+
+// Where it goes on after an instruction, with the truth value that there is.
+fn after(
     below: &[usize],
-    turns: &mut Vec<Turn>,
+    turns: &mut Turns,
     place: usize,
     instruction: Instruction,
-) -> Result<usize, AllocError> {
+    value: bool,
+) -> usize {
     let named = instruction.c as usize;
-    let mut after = place.wrapping_add(1);
     match instruction.op {
-        EACH => {
-            let (part, end) = visited(below, turns);
-            if part < end {
-                let next = named;
-                turns.push(Turn { next, part, end })?;
-            } else {
-                after = named.wrapping_add(1);
-            }
-        }
-        NEXT => match turns.pop() {
-            Some(turn) if turn.part.wrapping_add(1) < turn.end => {
-                let part = turn.part.wrapping_add(1);
-                turns.push(Turn { part, ..turn })?;
-                after = named.wrapping_add(1);
-            }
-            Some(_) => {}
-            None => after = NOWHERE,
-        },
-        _ => {
-            for _ in 0..instruction.a {
-                after = match turns.pop() {
-                    Some(turn) => turn.next.wrapping_add(1),
-                    None => NOWHERE,
-                };
-            }
-        }
+        EACH => after_each(below, turns, place, named),
+        NEXT => after_next(turns, place, named),
+        BREAK => after_break(turns, place, instruction.a),
+        JUMP => named,
+        JUMP_IF_TRUE if value => named,
+        _ => place.wrapping_add(1),
     }
-    Ok(after)
 }
 
 /// What an accepted program charges on a message, of whose parts so many are below each; none where it doesn't end.
-pub fn run_plainly(
-    alloc: Global,
-    code: &[Instruction],
-    below: &[usize],
-) -> Result<Option<u128>, AllocError> {
+pub fn run_plainly(code: &[Instruction], below: &[usize]) -> Option<u128> {
     let mut place = 0usize;
     let mut value = false;
-    let mut turns = Vec::new(alloc);
+    let mut turns = Turns::none();
     for charged in 1..100_000u32 {
-        let Some(instruction) = code.get(place) else {
-            return Ok(None);
-        };
-        let after = place.wrapping_add(1);
-        place = match instruction.op {
-            HALT => return Ok(Some(u128::from(charged))),
-            EACH | NEXT | BREAK => after_loop(below, &mut turns, place, *instruction)?,
-            JUMP => instruction.c as usize,
-            JUMP_IF_TRUE if value => instruction.c as usize,
-            BOOL => {
-                value = instruction.a == 1;
-                after
-            }
-            _ => after,
-        };
+        let instruction = *code.get(place)?;
+        if instruction.op == HALT {
+            return Some(u128::from(charged));
+        }
+        place = after(below, &mut turns, place, instruction, value);
+        if instruction.op == BOOL {
+            value = instruction.a == 1;
+        }
     }
-    Ok(None)
+    None
 }

@@ -49,8 +49,6 @@ pub mod laws;
 mod line;
 mod outline;
 mod stored;
-#[cfg(test)]
-mod tests;
 mod text;
 
 pub use catalog::catalog_text;

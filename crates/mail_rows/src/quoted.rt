@@ -2,7 +2,6 @@
 use crate::quoted_pieces::short_text;
 use quoted_printable::{decode_qp, encode_qp};
 use std::alloc::Global;
-use std::test::Fail;
 
 // Whether a text stands for these octets.
 fn reads(alloc: Global, text: &[u8], want: &[u8]) -> bool {
@@ -20,109 +19,143 @@ fn writes(alloc: Global, octets: &[u8], want: &[u8]) -> bool {
     }
 }
 
-// Each octet alone, and with another one after it.
-#[test]
-fn every_octet(rt: HostRuntime) {
-    let alloc = rt.alloc();
+fn is_graphic(octet: u8) -> bool {
+    octet > 32 && octet < 127 && octet != b'='
+}
+
+// The text of an octet that isn't written as it is, and the octet after it.
+fn escaped(octet: u8, after: u8) -> [u8; 4] {
     let digits = b"0123456789ABCDEF";
-    for octet in 0..=255u8 {
-        let graphic = octet > 32 && octet < 127 && octet != b'=';
-        let escape = [
-            b'=',
-            digits[(octet / 16) as usize],
-            digits[(octet % 16) as usize],
-        ];
-        if graphic {
-            assert!(rt; writes(alloc, &[octet], &[octet]), "{octet}");
-        } else {
-            assert!(rt; writes(alloc, &[octet], &escape), "{octet}");
-        }
-        if graphic || octet == b' ' || octet == b'\t' {
-            assert!(rt; writes(alloc, &[octet, b'x'], &[octet, b'x']), "{octet}");
-        } else {
-            assert!(rt;
-                writes(
-                    alloc,
-                    &[octet, b'x'],
-                    &[escape[0], escape[1], escape[2], b'x']
-                ),
-                "{octet}"
-            );
-        }
+    [
+        b'=',
+        digits[(octet / 16) as usize],
+        digits[(octet % 16) as usize],
+        after,
+    ]
+}
+
+// Whether an octet alone is written as it has to be.
+fn is_written_alone(alloc: Global, octet: u8) -> bool {
+    if is_graphic(octet) {
+        writes(alloc, &[octet], &[octet])
+    } else {
+        writes(alloc, &[octet], &escaped(octet, 0)[..3])
     }
 }
 
-// Whether the short text of a number stands for what a reader gives that goes octet by octet.
-fn is_plainly_read(alloc: Global, length: u32, number: u32) -> Result<bool, Fail> {
-    let text = short_text(alloc, length, number)?;
-    let want = plainly_read(alloc, &text)?;
-    Ok(reads(alloc, &text, &want))
+// Whether it is with another one after it.
+fn is_written_before_another(alloc: Global, octet: u8) -> bool {
+    let octets = [octet, b'x'];
+    if is_graphic(octet) || octet == b' ' || octet == b'\t' {
+        writes(alloc, &octets, &octets)
+    } else {
+        writes(alloc, &octets, &escaped(octet, b'x'))
+    }
+}
+
+// Each octet alone, and with another one after it.
+#[test]
+fn every_octet(rt: HostRuntime) {
+    for octet in 0..=255u8 {
+        assert!(rt; is_written_alone(rt.alloc(), octet), "{octet}");
+        assert!(rt; is_written_before_another(rt.alloc(), octet), "{octet}");
+    }
+}
+
+// Whether each text of so many octets stands for what a reader gives that goes octet by octet.
+fn are_plainly_read(alloc: Global, length: usize, texts: u32) -> bool {
+    for number in 0..texts {
+        let text = short_text(number);
+        if !is_plainly_read(alloc, &text[..length.min(6)]) {
+            return false;
+        }
+    }
+    true
+}
+
+fn is_plainly_read(alloc: Global, text: &[u8]) -> bool {
+    match decode_qp(alloc, text) {
+        Ok(octets) => stands_for(text, &octets),
+        Err(_) => false,
+    }
 }
 
 // Every text up to five octets of a small alphabet, against a reader that goes octet by octet.
 #[test]
-fn every_short_text(rt: HostRuntime) -> Result<(), Fail> {
-    let alloc = rt.alloc();
+fn every_short_text(rt: HostRuntime) {
     for (length, texts) in [
-        (0u32, 1u32),
+        (0usize, 1u32),
         (1, 7),
         (2, 49),
         (3, 343),
         (4, 2401),
         (5, 16_807),
     ] {
-        for number in 0..texts {
-            assert!(rt;
-                is_plainly_read(alloc, length, number)?,
-                "{length} {number}"
-            );
-        }
+        assert!(rt; are_plainly_read(rt.alloc(), length, texts), "{length}");
     }
-    Ok(())
 }
 
 // The same, without lines and searches: blanks and a `=` are kept back until it is known whether a line ends after them.
-fn plainly_read(alloc: Global, text: &[u8]) -> Result<Vec<u8>, Fail> {
-    let mut out = Vec::new(alloc);
+fn stands_for(text: &[u8], octets: &[u8]) -> bool {
     let mut place = 0usize;
+    let mut found = 0usize;
     for _ in 0..text.len() {
         if place >= text.len() {
             break;
         }
-        let octet = text[place];
-        let after = place + 1;
-        let blanks = blanks_from(text, after);
-        if octet == b'=' && ends_at(text, blanks) {
-            place = after_break(text, blanks);
-        } else if octet == b'='
-            && after + 1 < text.len()
-            && digit(text[after]) < 16
-            && digit(text[after + 1]) < 16
-        {
-            out.push(
-                digit(text[after])
-                    .wrapping_mul(16)
-                    .wrapping_add(digit(text[after + 1])),
-            )?;
-            place = after + 2;
-        } else if (octet == b' ' || octet == b'\t') && ends_at(text, blanks) {
-            place = blanks;
-        } else {
-            out.push(octet)?;
-            place = after;
+        let (octet, after) = read_at(text, place);
+        if octet.is_some() {
+            if octets.get(found).copied() != octet {
+                return false;
+            }
+            found = found.wrapping_add(1);
         }
+        place = after;
     }
-    Ok(out)
+    found == octets.len()
 }
 
+// The octet that stands at a place, if one does, and the place after that.
+fn read_at(text: &[u8], place: usize) -> (Option<u8>, usize) {
+    let Some(octet) = text.get(place).copied() else {
+        return (None, text.len());
+    };
+    let after = place.saturating_add(1);
+    if octet == b'=' {
+        return read_escape(text, after);
+    }
+    let blanks = blanks_from(text, after);
+    if (octet == b' ' || octet == b'\t') && ends_at(text, blanks) {
+        (None, blanks)
+    } else {
+        (Some(octet), after)
+    }
+}
+
+// What stands at a place after a `=`.
+fn read_escape(text: &[u8], after: usize) -> (Option<u8>, usize) {
+    let blanks = blanks_from(text, after);
+    if ends_at(text, blanks) {
+        return (None, after_break(text, blanks));
+    }
+    let high = digit_at(text, after);
+    let low = digit_at(text, after.saturating_add(1));
+    if high < 16 && low < 16 {
+        let octet = high.wrapping_mul(16).wrapping_add(low);
+        (Some(octet), after.saturating_add(2))
+    } else {
+        (Some(b'='), after)
+    }
+}
+
+// The first place from a start at which no blank stands.
 fn blanks_from(text: &[u8], start: usize) -> usize {
-    let mut place = start;
-    for _ in 0..text.len() {
-        if place < text.len() && (text[place] == b' ' || text[place] == b'\t') {
-            place += 1;
+    for place in start..text.len() {
+        if text[place] != b' ' && text[place] != b'\t' {
+            return place;
         }
     }
-    place
+    text.len()
 }
 
 // Whether the text or a line ends here.
@@ -138,11 +171,13 @@ fn after_break(text: &[u8], place: usize) -> usize {
     } else if text[place] == b'\n' {
         place + 1
     } else {
-        place + 2
+        place.saturating_add(2)
     }
 }
 
-fn digit(octet: u8) -> u8 {
+// The value of the hexadecimal digit at a place, or 16.
+fn digit_at(text: &[u8], place: usize) -> u8 {
+    let octet = text.get(place).copied().unwrap_or(b' ');
     match octet {
         b'0'..=b'9' => octet - b'0',
         b'A'..=b'F' => octet - b'A' + 10,
