@@ -5,3 +5,4 @@ pub mod Programs
 pub mod Looks
 -- private: how the code goes; no public contract names these
 pub mod Private
+pub mod Places

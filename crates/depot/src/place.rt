@@ -1,4 +1,11 @@
 // What is at a path, before anything there is opened.
+//
+// No clause can say what the system reports about a file. The functions that draw a conclusion from it have clauses.
+ghost use Rattle.std.specs.Prelude.{◌≡◌, IfErr, IfOk, IfSome, IsTrue, None, Ok, Some};
+ghost use Rattle.std.specs.Fs.{metadata_len};
+ghost use Rattle.std.specs.Io.{StartsWith};
+ghost use Rattle.std.specs.IoError.{error_kind};
+ghost use Rattle.depot.specs.Places.{IsSeenAs, database_head};
 
 use depot_cli::NoDepot;
 use std::alloc::AllocError;
@@ -57,7 +64,7 @@ pub fn look_at(rt: &HostRuntime, path: &str) -> Result<Option<u64>, Obstacle> {
         Err(fault) => return Err(fault.into()),
     };
     let log = octets_of_log(rt, path)?;
-    if let Some(why) = fault_of(&found, log) {
+    if let Some(why) = fault_of(&found, found.nlink(), log) {
         return Err(Obstacle::NoDepot(why));
     }
     let mut file = OpenOptions::new().read(true).write(true).open(rt, path)?;
@@ -68,7 +75,10 @@ pub fn look_at(rt: &HostRuntime, path: &str) -> Result<Option<u64>, Obstacle> {
 }
 
 // Whether a file begins as every database does. No log is made next to a file that doesn't.
-fn begins_as_database(file: &mut File) -> io::Result<bool> {
+fn begins_as_database<R: Read>(file: &mut R) -> io::Result<bool>
+    ensures { IfOk result (λ begins. IsTrue begins
+        → IfSome (R.remaining file.old) (λ left. StartsWith left database_head)) }
+{
     let mut head = [0; 16];
     match file.read_exact(&mut head) {
         Ok(()) => Ok(head == *DATABASE_HEAD),
@@ -97,22 +107,33 @@ fn octets_of_log(rt: &HostRuntime, path: &str) -> Result<Option<u64>, Obstacle> 
     let real = fs::canonicalize(rt, path)?;
     let mut log = String::from_str(rt.alloc(), real.as_str())?;
     log.push_str(LOG_ENDING)?;
-    match fs::symlink_metadata(rt, log.as_str()) {
+    size_of_log(fs::symlink_metadata(rt, log.as_str()))
+}
+
+// The size of a log, by what was found under its name. There is none only if nothing was found there.
+fn size_of_log(found: io::Result<Metadata>) -> Result<Option<u64>, Obstacle>
+    ensures size { IfOk found (λ log. result ≡ Ok (Some (metadata_len log))) }
+    ensures none { IfErr found (λ fault. IfOk result (λ size. (size ≡ None)
+        × (error_kind fault ≡ ErrorKind.NotFound))) }
+{
+    match found {
         Ok(found) => Ok(Some(found.len())),
         Err(fault) if fault.kind() == ErrorKind::NotFound => Ok(None),
         Err(fault) => Err(fault.into()),
     }
 }
 
-// What is wrong with a file, if that can be seen from outside.
-fn fault_of(found: &Metadata, log: Option<u64>) -> Option<NoDepot> {
+// What is wrong with a file, if that can be seen from outside. `names` is how many names it has.
+fn fault_of(found: &Metadata, names: u64, log: Option<u64>) -> Option<NoDepot>
+    ensures { IsSeenAs found.now names log result }
+{
     if found.is_dir() {
         return Some(NoDepot::Directory);
     }
     if !found.is_file() {
         return Some(NoDepot::Special);
     }
-    if found.nlink() != 1 {
+    if names != 1 {
         return Some(NoDepot::SecondName);
     }
     if found.len() == 0 && log.unwrap_or(0) == 0 {

@@ -53,7 +53,7 @@ macro_rules! with_version {
     ($($before:literal,)* ; $after:literal) => {
         concat!(
             $($before,)*
-            "depot 0.37.0, proved with Rattle, logic dac8208d650f15bf",
+            "depot 0.38.0, proved with Rattle, logic dac8208d650f15bf",
             $after
         )
     };
