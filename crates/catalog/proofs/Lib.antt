@@ -9,4 +9,5 @@ pub mod InOrder
 pub mod AddLemmas
 pub mod OutlineLemmas
 pub mod CatalogLemmas
+pub mod AgainLemmas
 mod Examples

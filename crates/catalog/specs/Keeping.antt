@@ -1,5 +1,6 @@
 -- What a catalog keeps of the content of an entry.
 use Rattle.std.specs.Prelude.{ℕ, List, if◌then◌else◌, Option, Some, None, option_map}
+use Rattle.std.specs.Rc.{rc_value}
 use Rattle.mime_decode.specs.Mail.{Mail, mail_of}
 use Rattle.serde_json.specs.Data.{Data}
 use Rattle.serde_json.specs.View.{view}
@@ -31,7 +32,7 @@ abbrev pub known_of : Filed → Known
 known_of filed = record { row = row_of_filed filed; outline = if filed.is_message then Some (outlined (mail_of filed.octets)) else None }
 
 abbrev pub known_as : Kept → Known
-known_as kept = record { row = row_of kept.entry; outline = option_map outlined_as kept.outline }
+known_as kept = record { row = row_of kept.entry; outline = option_map outlined_as (option_map rc_value kept.outline) }
 
 -- an entry of the list, with the octets of its content
 abbrev pub filed_as : Listed → List ℕ → Filed

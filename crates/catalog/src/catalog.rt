@@ -18,8 +18,8 @@ use crate::line::{message_line, part_line};
 use std::alloc::{AllocError, Global};
 
 /// Returns the catalog of the entries whose numbers are above `after`: a line for each, in their order. `kept` is what
-/// [`keep`](crate::keep) returned for all entries of the user, in their order, because which messages and parts belong
-/// together is looked for among all of them.
+/// [`keep`](crate::keep) and [`keep_again`](crate::keep_again) returned for all entries of the user, in their order,
+/// because which messages and parts belong together is looked for among all of them.
 ///
 /// # Errors
 ///

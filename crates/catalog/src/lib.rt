@@ -1,7 +1,8 @@
 //! Catalogs, which describe the entries of a user for other programs: a line for each entry, in JSON (RFC 8259).
 //!
-//! [`keep`] gives what a catalog needs of an entry and its content, and [`catalog_text`] makes the catalog of what it gave
-//! for all entries of a user; so each content is read once, and none is kept. `specs/Catalog` defines the text.
+//! [`keep`] gives what a catalog needs of an entry and its content, [`keep_again`] what it needs of another entry with the
+//! same content, and [`catalog_text`] makes the catalog of what they gave for all entries of a user; so a content is read
+//! once, and none is kept. `specs/Catalog` defines the text.
 //! [`message_line`] gives the line of a message, [`part_line`] that of a part, and a [`PartIndex`] finds the parts of
 //! messages among a user's entries, and the messages of a part entry. `specs/Lines` defines the lines, `specs/Texts` what
 //! they have for bytes that people chose, `specs/Fields` the header fields, and `specs/Stored` which entries have the
@@ -21,7 +22,7 @@
 //! The time grows with the contents, with the number of entries and parts times its logarithm, and with the places that
 //! are printed; this is not proved.
 //!
-//! By `keep`, `catalog_text`.
+//! By `keep`, `keep_again`, `catalog_text`.
 //!
 //! ## Lines of a catalog
 //!
@@ -54,7 +55,7 @@ mod text;
 pub use catalog::catalog_text;
 pub use entry::{Entry, Listed, PartEntry, Place};
 pub use index::{PartIndex, Slot};
-pub use keeping::{Kept, keep};
+pub use keeping::{Kept, keep, keep_again};
 pub use line::{message_line, part_line};
 pub use outline::Outline;
 pub use text::text_value;

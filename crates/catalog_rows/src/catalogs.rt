@@ -1,6 +1,6 @@
 // The text of a catalog.
 use crate::mails::MESSAGE;
-use catalog::{Kept, Listed, catalog_text, keep};
+use catalog::{Kept, Listed, catalog_text, keep, keep_again};
 use std::alloc::Global;
 
 // The lines of the entries below, as Python's `json` wrote them.
@@ -9,6 +9,9 @@ const FIRST_LINES: &[u8] =
 
 const LAST_LINES: &[u8] =
     b"{\"fields\":{},\"folder\":\"INBOX\",\"kind\":\"message\",\"media\":\"message/rfc822\",\"name\":\"\",\"number\":4,\"octets\":2,\"parts\":1,\"sha256\":\"bbe56d7c2d0f1f7271eb6f829800598a0a1c5a54f09cb49c47607e0698af7d6f\",\"stored\":[{\"number\":7,\"part\":0}]}\n{\"folder\":\"Documents\",\"kind\":\"part\",\"media\":\"text/plain\",\"name\":{\"base64\":\"/w==\"},\"number\":7,\"octets\":1,\"of\":[{\"number\":4,\"part\":0}],\"sha256\":\"2d711642b726b04401627ca9fbac32f5c8530fb1903cc4db02258717921a4881\"}\n";
+
+const AGAIN_LINE: &[u8] =
+    b"{\"fields\":{},\"folder\":\"INBOX\",\"kind\":\"message\",\"media\":\"message/rfc822\",\"name\":\"\",\"number\":4,\"octets\":2,\"parts\":1,\"sha256\":\"bbe56d7c2d0f1f7271eb6f829800598a0a1c5a54f09cb49c47607e0698af7d6f\",\"stored\":[]}\n";
 
 // The number, whether it is a message, and the content of each entry: a part of the message after it, and a part of the
 // message before it.
@@ -62,6 +65,15 @@ fn catalog_after(alloc: Global, after: u32) -> Option<Vec<u8>> {
     catalog_text(alloc, &kept, after).ok()
 }
 
+// The catalog of an entry that has the content of a message, which isn't read again; nothing if the entry is a part.
+fn catalog_again(alloc: Global, is_message: bool) -> Option<Vec<u8>> {
+    let first = keep(alloc, listed(2, true), b"\nx").ok()?;
+    let again = keep_again(&first, listed(4, is_message)).ok()?;
+    let mut kept = Vec::new(alloc);
+    kept.push(again?).ok()?;
+    catalog_text(alloc, &kept, 0).ok()
+}
+
 // Whether a catalog is these lines.
 fn is_catalog(catalog: Option<Vec<u8>>, first: &[u8], last: &[u8]) -> bool {
     match catalog {
@@ -83,4 +95,10 @@ fn catalogs(rt: HostRuntime) {
     assert!(rt; is_catalog(catalog_after(rt.alloc(), 0), FIRST_LINES, LAST_LINES));
     assert!(rt; is_catalog(catalog_after(rt.alloc(), 2), b"", LAST_LINES));
     assert!(rt; is_catalog(catalog_after(rt.alloc(), 7), b"", b""));
+}
+
+#[test]
+fn catalogs_of_shared_contents(rt: HostRuntime) {
+    assert!(rt; is_catalog(catalog_again(rt.alloc(), true), AGAIN_LINE, b""));
+    assert!(rt; catalog_again(rt.alloc(), false).is_none());
 }

@@ -32,6 +32,7 @@ mod Putting
 mod Carrying
 mod Showing
 mod ListedFailing
+mod Siblings
 mod Opened
 pub mod Stored
 mod Commits

@@ -42,3 +42,22 @@ pub struct EntryRow {
     /// The size of the content in bytes.
     pub octets: u64,
 }
+
+/// An entry of the store, without its content and the size of it, in a list that says which entries have the same content
+/// ([`crate::PartStore::sharing_entries_of`]).
+#[derive(Drop)]
+pub struct SharingRow {
+    /// The number, as in [`EntryRow`].
+    pub number: u32,
+    /// Whether the entry is a message or a part.
+    pub kind: Kind,
+    /// The folder, as bytes.
+    pub folder: Vec<u8>,
+    /// The name, as bytes: a part's name, empty if it has none.
+    pub name: Vec<u8>,
+    /// The media type, as bytes.
+    pub media: Vec<u8>,
+    /// The place in the list, counted from 0, of the first entry that is stored under the same digest. It has the same
+    /// content.
+    pub first: usize,
+}

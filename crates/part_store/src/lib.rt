@@ -26,7 +26,8 @@
 //! The store's tables represent a state of programs, entries and last numbers. If the disk returns what was written,
 //! `set_program`, `replace_programs`, `put_users`, `add_entries`, `add_sharing_entries` and `remove_entry` are exactly
 //! their steps on it, committed once, and `program_of`, `programs`, `users`, `last_of`, `contents`, `entries_of`,
-//! `entries_since` and `bytes_of` give exactly what is there.
+//! `entries_since` and `bytes_of` give exactly what is there. `sharing_entries_of` gives exactly the entries, and for each
+//! the place of one that has the same octets.
 //!
 //! ### Users that are put in
 //!
@@ -84,8 +85,8 @@
 //! connection is taken inside of a transaction.
 //!
 //! By `PartStore`: `set_program`, `replace_programs`, `put_users`, `add_entries`, `add_sharing_entries`, `remove_entry`,
-//! `program_of`, `programs`, `users`, `last_of`, `contents`, `entries_of`, `entries_since`, `bytes_of`, `scrub`, `adopt`,
-//! `in_memory`, `release`, `transact`; by `Within`: `program_of`, `add_sharing_entries`; laws
+//! `program_of`, `programs`, `users`, `last_of`, `contents`, `entries_of`, `entries_since`, `sharing_entries_of`,
+//! `bytes_of`, `scrub`, `adopt`, `in_memory`, `release`, `transact`; by `Within`: `program_of`, `add_sharing_entries`; laws
 //! `open_stores_list_their_tables`, `calls_leave_what_was_or_is`, `contents_keep_their_digests`, `scrubs_report_all_damage`, `users_carry_over`.
 //!
 //! ## Connections that are taken as they are
@@ -155,7 +156,7 @@ mod user_row;
 mod users;
 mod within;
 
-pub use entry::{EntryRow, Kind, NewEntry};
+pub use entry::{EntryRow, Kind, NewEntry, SharingRow};
 pub use error::StoreError;
 pub use looking::Unopened;
 pub use scrubbing::{DamagedEntry, Scrubbed};

@@ -34,7 +34,7 @@ ghost use Rattle.sqlite.specs.Steps.{over_memory};
 ghost use Rattle.part_store.specs.Opening.{HasOtherTables, HoldsNoTables, HoldsStore, IsAt, IsBare, IsEmptied, IsFoundIn, IsKept, IsReady, IsReadyFrom, KeepsDatabase, KeepsStore, MakesEmpty, TellsWhy};
 ghost use Rattle.part_store.specs.Connections.{OpensOrTells};
 ghost use Rattle.sqlite.specs.WalFiles.{image_at};
-ghost use Rattle.part_store.specs.Sharing.{SharesContents, first_of};
+ghost use Rattle.part_store.specs.Sharing.{AreSharing, SharesContents, first_of};
 ghost use Rattle.part_store.specs.Verifying.{IsAltered, IsVerified, Keeps, Lacks, Names, OnlyWhenFailedOrAltered};
 ghost use Rattle.part_store.specs.Causes.{content_altered};
 ghost use Rattle.part_store.specs.Calls.{Always, DoneWhere, IfDone, IfRefused, MayCommit, OnDone, OnRefused, RefusedWhere, Tells};
@@ -44,9 +44,9 @@ mod connections;
 
 use crate::adding::last_of;
 use crate::all_users::{list_users, put_all};
-use crate::entry::{EntryRow, NewEntry};
+use crate::entry::{EntryRow, NewEntry, SharingRow};
 use crate::error::StoreError;
-use crate::listing::{list_all, list_since};
+use crate::listing::{list_all, list_sharing, list_since};
 use crate::looking::{Unopened, has_tables};
 use crate::opening::open_database;
 use crate::scrubbing::{Scrubbed, scrub_all};
@@ -628,6 +628,23 @@ impl<S: Alter> PartStore<S> {
     {
         let mut tx = begin(&mut self.conn);
         list_since(&mut tx, user, number)
+    }
+
+    /// Returns the user's entries as [`PartStore::entries_of`] does, without sizes, and for each the place in the list of
+    /// an entry with the same content: the first one that is stored under the same digest. No content is read.
+    ///
+    /// # Errors
+    ///
+    /// - `Memory` if memory is refused.
+    /// - `Database` if the database fails (see [`PartStore`]).
+    pub fn sharing_entries_of(&mut self, user: &str) -> Result<Vec<SharingRow>, StoreError>
+        ensures answer { Tells S.Store self.old self.new result
+            (λ before rows. AreSharing rows.items (entries_of user.now before)) }
+        ensures reads { ReadsStore S.Store self.old self.new result }
+        ensures refused { IsRefusedAs S.Store self.old self.new result IsFailure OnlyWhenFailed }
+    {
+        let mut tx = begin(&mut self.conn);
+        list_sharing(&mut tx, user)
     }
 
     /// Returns the bytes of the user's entry with this number. Their SHA-256 is the digest that they are stored under

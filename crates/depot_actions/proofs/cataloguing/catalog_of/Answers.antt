@@ -1,12 +1,11 @@
 use Rattle.depot_actions.proofs.StoreFaults.{later_fault, passed_on, weaker_fault}
 use Rattle.catalog.specs.Keeping.{known_as}
-use Rattle.depot_actions.specs.Cataloguing.{AreListed}
 use Rattle.depot_actions.specs.Causes.{IsIllegible}
 use Rattle.depot_actions.specs.DepotState.{filed_of}
 use Rattle.part_store.specs.Entries.{entries_of}
-use Rattle.part_store.specs.Standing.{listed}
+use Rattle.part_store.specs.Sharing.{AreSharing}
 use Rattle.sqlite.specs.State.{HasCleanDisk}
-use Rattle.std.proofs.Common.{◌∙◌, ap, arith, map}
+use Rattle.std.proofs.Common.{◌∙◌, ap, arith, map, subst, sym}
 use Rattle.sqlite.specs.Held.{state}
 use Rattle.depot_actions.proofs.KeepingRows.{settled_after}
 use Rattle.depot_actions.proofs.Commands.{stands_still}
@@ -20,9 +19,9 @@ returns-in_err-kept-clause-cause g c clean =
     let user = c.args.user.now in
     let early : HasCleanDisk mid = omega (arith, clean, c.keep_all.ensures.survives.clean) in
     passed_on c.from_residual-in_err-kept.result _ _ c.from_residual-in_err-kept.ensures.1
-    (weaker_fault (λ before db. AreListed user c.deref.result.now before → IsIllegible user before db) (IsIllegible user) old new _
-    (λ before stands illegible. illegible (ap (map listed) c.deref.ensures.value ∙ c.in_ok-rows.ensures.answer early before stands))
-    (later_fault (λ before db. AreListed user c.deref.result.now before → IsIllegible user before db) old mid new _ (c.rows_of.ensures.reads.unchanged early) c.rows_of.ensures.reads.survives c.keep_all.ensures.survives clean
+    (weaker_fault (λ before db. AreSharing c.deref.result.now (entries_of user before) → IsIllegible user before db) (IsIllegible user) old new _
+    (λ before stands illegible. illegible (subst (λ rows. AreSharing rows (entries_of user before)) (sym c.deref.ensures.value) (c.in_ok-rows.ensures.answer early before stands)))
+    (later_fault (λ before db. AreSharing c.deref.result.now (entries_of user before) → IsIllegible user before db) old mid new _ (c.rows_of.ensures.reads.unchanged early) c.rows_of.ensures.reads.survives c.keep_all.ensures.survives clean
     (c.in_err-kept.ensures.cause clean)))
 
 pub returns-clause-answer : goal.returns-clause-answer
@@ -37,7 +36,8 @@ returns-clause-answer g c clean =
       λ before stands. (
         c.in_ok-catalog_text.ensures (map filed_of (entries_of user before))
             (ap (map known_as) c.deref-2.ensures.value
-            ∙ c.in_ok-kept.ensures.answer clean before (stands_still old mid before (reads.unchanged early) stands) (ap (map listed) c.deref.ensures.value ∙ c.in_ok-rows.ensures.answer early before stands)),
+            ∙ c.in_ok-kept.ensures.answer clean before (stands_still old mid before (reads.unchanged early) stands)
+            (subst (λ rows. AreSharing rows (entries_of user before)) (sym c.deref.ensures.value) (c.in_ok-rows.ensures.answer early before stands))),
         settled_after old mid new before stands (reads.unchanged early) (c.keep_all.ensures.unchanged clean) (reads.settled early),
       ),
     )

@@ -2,7 +2,8 @@ use Rattle.depot_actions.proofs.StoreFaults.{passed_on, weaker_fault}
 use Rattle.depot_actions.specs.Cataloguing.{IsUnkept}
 use Rattle.part_store.specs.Standing.{HasNone}
 use Rattle.part_store.specs.Verifying.{IsAltered}
-use Rattle.std.proofs.Common.{◌⊎◌, inl, sym, ap, ◌∙◌}
+use Rattle.std.proofs.Common.{◌⊎◌, [], inl, sym, ap, ◌∙◌}
+use Rattle.catalog.specs.Catalog.{Filed}
 use Rattle.sqlite.specs.Held.{state}
 use Rattle.depot_actions.proofs.KeepingRows.{keep_fault, keep_refused, kept_of_row}
 use Rattle.depot_actions.proofs.cataloguing.keep_one.Goals as goal
@@ -18,9 +19,8 @@ returns-in_err-octets-clause-cause g c clean =
 
 pub returns-clause-answer : goal.returns-clause-answer
 returns-clause-answer g c clean =
-    kept_of_row c.args.user.now c.args.row.now (state g.S.Store c.args.store.now) _ _ _ _ _ c.keep.result c.map_err.result c.map_err.ensures.cases
-    c.as_slice.ensures.value c.as_slice-2.ensures.value c.as_slice-3.ensures.value c.is_message.ensures
-    (λ before stands. let (x, at, is) = c.in_ok-octets.ensures.answer clean before stands in (x, at, c.as_slice-4.ensures.value ∙ is)) c.keep.ensures.kept
+    kept_of_row c.args.user.now c.args.row.now (state g.S.Store c.args.store.now) _ _ c.keep.result c.map_err.result c.map_err.ensures.cases c.listed_of.ensures
+    (λ before stands. let (x, at, is) = c.in_ok-octets.ensures.answer clean before stands in (x, at, c.as_slice.ensures.value ∙ is)) c.keep.ensures.kept
 
 pub returns-clause-refused : goal.returns-clause-refused
 returns-clause-refused g c = keep_refused c.keep.result c.map_err.result c.map_err.ensures.cases
@@ -28,4 +28,4 @@ returns-clause-refused g c = keep_refused c.keep.result c.map_err.result c.map_e
 pub returns-clause-cause : goal.returns-clause-cause
 returns-clause-cause g c clean =
     keep_fault c.args.user.now c.args.row.now (state g.S.Store c.args.store.now) (state g.S.Store c.content_of.new.store) _ _ c.keep.result c.map_err.result c.map_err.ensures.cases
-    (λ before stands. let (x, at, is) = c.in_ok-octets.ensures.answer clean before stands in (x, at, c.as_slice-4.ensures.value ∙ is)) c.is_message.ensures c.keep.ensures.refused
+    (λ before stands. let (x, at, is) = c.in_ok-octets.ensures.answer clean before stands in (x, at, c.as_slice.ensures.value ∙ is)) (ap (λ (f : Filed). f.is_message) (c.listed_of.ensures [])) c.keep.ensures.refused

@@ -5,4 +5,4 @@ use Rattle.depot_actions.proofs.cataloguing.rows_of.Goals as goal
 
 pub returns-clause-cause : goal.returns-clause-cause
 returns-clause-cause g c clean =
-    failure_told (IsIllegible c.args.user.now) (state g.S.Store c.args.store.now) (state g.S.Store c.entries_of.new.self) c.entries_of.result c.map_err.result c.map_err.ensures.cases (c.entries_of.ensures.refused.cause clean)
+    failure_told (IsIllegible c.args.user.now) (state g.S.Store c.args.store.now) (state g.S.Store c.sharing_entries_of.new.self) c.sharing_entries_of.result c.map_err.result c.map_err.ensures.cases (c.sharing_entries_of.ensures.refused.cause clean)
