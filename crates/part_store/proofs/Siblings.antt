@@ -3,6 +3,7 @@ use Rattle.std.proofs.Common.{◌≡◌, ◌⊎◌, inl, inr, ℕ, zero, suc, �
 use Rattle.std.specs.BTreeMap.{BTreeMap, get, is_at}
 use Rattle.std.specs.Cmp.Lexicographic.{slice_cmp}
 use Rattle.std.specs.List.{AllZip}
+use Rattle.std.specs.Map.{lookup}
 use Rattle.std.specs.Ordering.{nat_cmp}
 use Rattle.std.proofs.lemmas.List.{length-append, take_all, take_more}
 use Rattle.std.proofs.lemmas.Map.Text.{is_eq-slice_cmp}
@@ -38,7 +39,7 @@ noted_one key digest other place at old new same put now =
 
 -- nothing is noted at first
 pub none_noted : (db : Trees) (xs : List Entry) (firsts : BTreeMap (List ℕ) ℕ) → firsts.entries ≡ [] → AreFirsts db xs firsts
-none_noted db xs firsts empty digest place found = absurd (none-some place (rw empty at found))
+none_noted db xs firsts empty digest place found = absurd (none-some place (sym (ap (lookup (is_at (slice_cmp nat_cmp digest))) empty) ∙ found))
 
 pub place_noted : (db : Trees) (xs : List Entry) (x : Entry) (digest : List ℕ) (place : ℕ) (old new : BTreeMap (List ℕ) ℕ) → AreFirsts db xs old → slice_get xs place ≡ Some x → HasContent (db contents_tree) digest x.octets
     → ((other : List ℕ) (at : ℕ) → get (slice_cmp nat_cmp) new other ≡ Some at → (get (slice_cmp nat_cmp) old other ≡ Some at) ⊎ ((other ≡ digest) × (at ≡ place)))
