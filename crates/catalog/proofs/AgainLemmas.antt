@@ -1,5 +1,6 @@
 -- What is kept of an entry that has the content of another one.
-use Rattle.std.proofs.Common.{◌≡◌, ℕ, List, Bool, true, false, if◌then◌else◌, Option, Some, None, is_some, length, option_map, refl, sym, ap, ◌∙◌}
+use Rattle.std.proofs.Common.{◌≡◌, ℕ, List, Bool, true, false, if◌then◌else◌, Option, Some, None, is_some, length, not, option_map, true≢false, refl, sym, ap, ◌∙◌}
+use mathlib.Core.Bool.{beq}
 use Rattle.sha2.specs.Sha256.{sha256}
 use Rattle.mime_decode.specs.Mail.{mail_of}
 use Rattle.catalog.specs.Catalog.{Filed}
@@ -13,6 +14,12 @@ some_mapped f (Some x) = refl
 some_if : (b : Bool) (v : Outlined) → is_some (if b then Some v else None) ≡ b
 some_if true v = refl
 some_if false v = refl
+
+pub same_kind : (a b : Bool) → not (beq a b) ≡ false → a ≡ b
+same_kind true true h = refl
+same_kind true false h = absurd (true≢false h)
+same_kind false true h = absurd (true≢false h)
+same_kind false false h = refl
 
 abbrev known_with : Listed → ℕ → List ℕ → Option Outlined → Known
 known_with listed size digest outline =

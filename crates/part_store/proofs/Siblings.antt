@@ -1,11 +1,11 @@
 -- The entries that the rows of an answer show, each with a place at which an entry has the same octets.
-use Rattle.std.proofs.Common.{◌≡◌, ◌⊎◌, inl, inr, ℕ, zero, suc, ◌+◌, ◌<◌, ◌≤◌, List, [], ◌∷◌, ◌++◌, Bool, true, false, cond, IfSome, Option, Some, None, bytes_eq, get_or, is_eq, length, slice_get, take, refl, sym, ap, subst, ◌∙◌, arith}
+use Rattle.std.proofs.Common.{◌≡◌, ◌⊎◌, inl, inr, ℕ, zero, suc, ◌+◌, ◌<◌, ◌≤◌, List, [], ◌∷◌, ◌++◌, Bool, true, false, cond, IfOk, IfSome, IsErrAnd, Option, Result, Ok, Err, Some, None, bytes_eq, get_or, length, slice_get, take, refl, sym, ap, subst, ◌∙◌, arith}
 use Rattle.std.specs.BTreeMap.{BTreeMap, get, is_at}
 use Rattle.std.specs.Cmp.Lexicographic.{slice_cmp}
-use Rattle.std.specs.List.{AllZip}
+use Rattle.std.specs.List.{AllByRecursion, AllZip}
 use Rattle.std.specs.Map.{lookup}
 use Rattle.std.specs.Ordering.{nat_cmp}
-use Rattle.std.proofs.lemmas.List.{length-append, take_all, take_more}
+use Rattle.std.proofs.lemmas.List.{take_all, take_more}
 use Rattle.std.proofs.lemmas.Map.Text.{is_eq-slice_cmp}
 use Rattle.std.proofs.lemmas.Option.{get_or_from_slice_get, none-some, same_Some, slice_get_within}
 use Rattle.std.proofs.lemmas.Slice.Eq.{bytes_eq-Decides}
@@ -27,15 +27,15 @@ found_as None is same = tt
 found_as (Some x) is same = sym same
 
 chosen : (b : Bool) (P : Type 0) (place at : ℕ) (old new : Option ℕ) → (b ≡ true → P) → new ≡ cond b (Some place) old → new ≡ Some at → (old ≡ Some at) ⊎ (P × (at ≡ place))
-chosen true P place at old new yes put now = inr (yes refl, same_Some at place (sym now ∙ put))
-chosen false P place at old new yes put now = inl (sym put ∙ now)
+chosen true P place at old new hit put now = inr (hit refl, same_Some at place (sym now ∙ put))
+chosen false P place at old new hit put now = inl (sym put ∙ now)
 
 -- a place was noted for the digest
 pub noted_one : (key digest other : List ℕ) (place at : ℕ) (old new : Option ℕ) → key ≡ digest → new ≡ cond (is_at (slice_cmp nat_cmp key) other) (Some place) old → new ≡ Some at
     → (old ≡ Some at) ⊎ ((other ≡ digest) × (at ≡ place))
 noted_one key digest other place at old new same put now =
     chosen (is_at (slice_cmp nat_cmp key) other) (other ≡ digest) place at old new
-    (λ yes. sym ((bytes_eq-Decides key other).0 (sym (is_eq-slice_cmp key other) ∙ yes)) ∙ same) put now
+    (λ hit. sym ((bytes_eq-Decides key other).0 (sym (is_eq-slice_cmp key other) ∙ hit)) ∙ same) put now
 
 -- nothing is noted at first
 pub none_noted : (db : Trees) (xs : List Entry) (firsts : BTreeMap (List ℕ) ℕ) → firsts.entries ≡ [] → AreFirsts db xs firsts
@@ -50,6 +50,15 @@ place_noted db xs x digest place old new firsts there has notes other at found =
 ]
 
 -- ---- row by row
+
+pub none_ok : {T E : Type 0} (result : Result T E) (Why : E → Type 0) (Is : T → Type 0) → IsErrAnd result Why → IfOk result Is
+none_ok (Ok x) Why Is h = absurd h
+none_ok (Err e) Why Is h = tt
+
+pub all_at : {A : Type 0} (P : A → Type 0) (xs : List A) (place : ℕ) (x : A) → AllByRecursion P xs → place < length xs → x ≡ get_or xs place x → P x
+all_at P [] place x all lt is = absurd (omega (arith, lt))
+all_at P (y ∷ xs) zero x all lt is = subst P (sym is) all.0
+all_at P (y ∷ xs) (suc place) x all lt is = all_at P xs place x all.1 (omega (arith, lt)) is
 
 -- the entry that the row at a place shows
 pub entry_shown : (db : Trees) (rows : List Row) (xs : List Entry) (place : ℕ) (row : Row) → AllZip (Shows db) rows xs → place < length rows → row ≡ get_or rows place row
@@ -88,13 +97,11 @@ zip_long R (x ∷ ms) (y ∷ ns) all = omega (arith, zip_long R ms ns all.1)
 
 -- so far the rows before a place were read
 pub record SharingSoFar (rows : List Row) (place : ℕ) (sharing : List SharingRow) (firsts : BTreeMap (List ℕ) ℕ) : Type 0 where
-  pub long : length sharing ≡ place
   pub listed : (db : Trees) (xs : List Entry) → HaveOneContent db → AllZip (Shows db) rows xs → AllZip (IsSharingRow xs) sharing (take place xs)
   pub noted : (db : Trees) (xs : List Entry) → AllZip (Shows db) rows xs → AreFirsts db xs firsts
 
 pub none_read : (rows : List Row) (sharing : List SharingRow) (firsts : BTreeMap (List ℕ) ℕ) → sharing ≡ [] → firsts.entries ≡ [] → SharingSoFar rows 0 sharing firsts
 none_read rows sharing firsts none empty = record {
-  long = ap length none;
   listed = λ db xs single all. subst (λ s. AllZip (IsSharingRow xs) s []) (sym none) tt;
   noted = λ db xs all. none_noted db xs firsts empty;
 }
@@ -105,7 +112,6 @@ pub one_read : (rows : List Row) (place : ℕ) (row : Row) (sharing more : List 
     → ((db : Trees) (xs : List Entry) (x : Entry) → AreFirsts db xs old → slice_get xs place ≡ Some x → Shows db row x → AreFirsts db xs new)
     → SharingSoFar rows (place + 1) more new
 one_read rows place row sharing more one old new lt is all so_far shown noted = record {
-  long = ap length all ∙ length-append sharing (one ∷ []) ∙ ap (λ n. n + 1) so_far.long;
   listed = λ db xs single zipped.
       let (x, there, shows) = entry_shown db rows xs place row zipped lt is in
       let taken : take (place + 1) xs ≡ take place xs ++ x ∷ [] =

@@ -178,7 +178,8 @@ fn sharing_in(rows: &Vec<Row>) -> Result<Vec<SharingRow>, StoreError>
     let mut firsts = BTreeMap::new(*rows.allocator());
     let mut sharing = Vec::with_capacity(*rows.allocator(), rows.len())?;
     for row in rows {
-        let one = sharing_row(row, sharing.len(), &mut firsts)?;
+        let place = sharing.len();
+        let one = sharing_row(row, place, &mut firsts)?;
         sharing.push(one)?;
     }
     Ok(sharing)
