@@ -54,23 +54,23 @@
 //!
 //! A task on a depot in volumes is one command of all volumes together as one depot. Its reply is printed whole with
 //! status 0, or breaks off with status 1 while the command stays done, if the writer fails or memory is refused for a
-//! piece of an export. Or the one line of its refusal is printed, with status 1, and what the volumes hold together is as
-//! it was; the next volume can have begun. Such a refusal is one that the command can get, or `Memory` or `Database`,
-//! because the volumes can't be opened, read or begun. `NoSuchEntry` and `NumberFull` have their cause in what the volumes
-//! hold together. An export is reported as a failed write only if the writer failed. If opening the volumes was refused,
-//! that refusal is printed, and nothing else is done.
+//! piece of an export. Or the one line of its refusal is printed, with status 1, and what the volumes hold together is
+//! as it was; the next volume can have begun. Such a refusal is one that the command can get, or `Memory` or
+//! `Database`, because the volumes can't be opened, read or begun. `NoSuchEntry` and `NumberFull` have their cause in
+//! what the volumes hold together. An export is reported as a failed write only if the writer failed. If opening the
+//! volumes was refused, that refusal is printed, and nothing else is done.
 //!
 //! A program that is saved is the user's program in the newest volume. It is made a file as a program of one depot is
 //! ("Saving a program").
 //!
-//! Statuses, printed texts and which refusals come are promised always. What becomes of the volumes is promised as long
-//! as no depot is shut by a failure. The contracts don't say why `Database` is reported, and not what a crash leaves. A
-//! catalog of volumes is refused as `Database`.
+//! The status and which refusals can come are promised always. That the reply is that of the command, and what becomes
+//! of the volumes, is promised as long as no depot is shut by a failure. The contracts say neither why `Database` is
+//! reported nor what a crash leaves. A catalog of volumes is refused as `Database`.
 //!
 //! All this holds for whatever implements the trait `Volumes`. That a folder of files keeps what the trait promises is
 //! tested, not proved.
 //!
-//! By `carry_on_volumes`, `perform_on_volumes`, `reply_on_volumes`, `save_on_volumes`; the calls of `volumes`.
+//! By `carry_on_volumes`, `perform_on_volumes`, `reply_on_volumes`, `save_on_volumes`; the calls of volumes.
 //!
 //! ## Saving a program
 //!
