@@ -398,7 +398,7 @@ class Depot:
             return (Ended if self._ended else Strange)(f"{why}: {asked}" + (f": {text}" if text else ""))
         number = int(found[1])
         if number == Database.number or self._ended:
-            self._ended = f"the batch has ended, since it was {text}: open the depot again"
+            self._ended = f"the batch has ended, because a command was {text}: open the depot again"
         place = int(found[3]) if found[3] else None
         return _REFUSALS.get(number, Refused)(f"{text}: {asked}", number, found[2].decode(), place)
 
