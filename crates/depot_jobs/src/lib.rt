@@ -41,7 +41,7 @@
 //!
 //! An answer is printed whole with status 0, or the one line of its refusal with status 1; if a writer fails, a
 //! prefix, with status 1 and the line of `Write`. A script or program above its limit is reported as that even if
-//! memory has run out, except by `explain`, which takes memory first.
+//! memory has run out; only to explain a script takes memory, however long it is.
 //!
 //! ### The list of parts
 //!
