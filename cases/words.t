@@ -983,7 +983,7 @@ Help.
     2>
     2> The lines are commands without DB:
     2>   script USER SCRIPT, code USER PROGRAM, deliver USER MESSAGE, list USER,
-    2>   since USER NUMBER, catalog USER [NUMBER], export USER NUMBER ENCODING FILE,
+    2>   since USER NUMBER, catalog USER NUMBER, export USER NUMBER ENCODING FILE,
     2>   remove USER NUMBER, migrate
     2> One space separates two words. A word with a space, a quotation mark or a line break is written in
     2> quotation marks; in these \22 is a quotation mark, \5c a backslash, \0a a line break.

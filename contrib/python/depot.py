@@ -16,7 +16,7 @@ b'Subject: bills\n\nPay it.\n'
 {'Subject': b'bills'}
 
 A Depot starts `depot batch FILE` and keeps it until it is closed; each call is a line of that batch. So a call that returns
-was done, and whatever happens then, it stays done. docs/INTERFACE.md describes the lines, the refusals and the limits.
+was done, and stays done whatever happens later. docs/INTERFACE.md describes the lines, the refusals and the limits.
 
 The program is `depot` on the PATH, or what the variable DEPOT names, or the argument `program`. No shell runs. While a Depot
 is open, it has the lock FILE.lock, for which `deliver`, `ask` and `hold` wait, and every other command of depot on FILE is
@@ -107,7 +107,7 @@ class Described(NamedTuple):
 
 
 class DepotError(Exception):
-    """Why a call wasn't done. All exceptions of this module are of this class, but for wrong arguments and temporary files."""
+    """Why a call wasn't done. All exceptions of this module are of this class, except those for wrong arguments and temporary files."""
 
 
 class NoProgram(DepotError):
@@ -278,16 +278,16 @@ class Depot:
         return [Filed(int(number), kind.decode(), _unquoted(folder)) for number, kind, folder in _entries(_FILED, lines)]
 
     def list(self, user: str) -> List[Entry]:
-        """What the user has, by number."""
+        """The entries of the user, by number."""
         return self._listed("list", user)
 
     def since(self, user: str, number: int) -> List[Entry]:
-        """What the user has above a number, by number: all that is new, if this is the last number that you know; all, if it is 0."""
+        """The entries above a number, by number: everything new if it is the last number that you know; all entries if it is 0."""
         return self._listed("since", user, str(number))
 
     def catalog(self, user: str, number: int = 0) -> List[Described]:
-        """What the user has above a number, by number, with its SHA-256, header fields, and which messages and parts belong together,
-        also those up to the number."""
+        """The entries above a number, by number, with SHA-256, header fields, and which messages and parts belong together, also if one
+        of the two isn't above the number."""
         return [_described(line) for line in self._ask("catalog", user, str(number))]
 
     def _listed(self, *words: str) -> List[Entry]:
@@ -315,7 +315,7 @@ class Depot:
             _remove(name)
 
     def remove(self, user: str, number: int) -> None:
-        """Removes an entry. Its number is never given again."""
+        """Removes an entry. Its number is not used again, except after a restore."""
         self._ask("remove", user, str(number))
 
     def migrate(self) -> int:
@@ -398,7 +398,7 @@ class Depot:
             return (Ended if self._ended else Strange)(f"{why}: {asked}" + (f": {text}" if text else ""))
         number = int(found[1])
         if number == Database.number or self._ended:
-            self._ended = f"the batch has ended, since it was {text}: open the depot again"
+            self._ended = f"the batch has ended, because a command was {text}: open the depot again"
         place = int(found[3]) if found[3] else None
         return _REFUSALS.get(number, Refused)(f"{text}: {asked}", number, found[2].decode(), place)
 

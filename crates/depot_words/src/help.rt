@@ -284,7 +284,7 @@ pub const SCRUB: &str = concat!(
 pub const BATCH: &str = concat!(
     "The lines are commands without DB:\n",
     "  script USER SCRIPT, code USER PROGRAM, deliver USER MESSAGE, list USER,\n",
-    "  since USER NUMBER, catalog USER [NUMBER], export USER NUMBER ENCODING FILE,\n",
+    "  since USER NUMBER, catalog USER NUMBER, export USER NUMBER ENCODING FILE,\n",
     "  remove USER NUMBER, migrate\n",
     "One space separates two words. A word with a space, a quotation mark or a line break is written in\n",
     "quotation marks; in these \\22 is a quotation mark, \\5c a backslash, \\0a a line break.\n",
