@@ -17,16 +17,23 @@ use Rattle.depot_cli.specs.declared.no_depot.NoDepot.{NoDepot}
 
 -- ---- tasks
 
--- A task was carried to what opening gave, with this status: its command was performed on the
--- depot, which is open still; or the refusal of opening was told, with status 1.
+-- A task was carried to what opening gave, with this status: it was performed on what was opened, which
+-- is open still; or the refusal of opening was told, with status 1.
+abbrev pub IsCarried :
+    {H : Type 0} → (H → H → Type 0) → ℕ → Result H Refusal → Result H Refusal
+    → Output → Output → Output → Output → Type 0
+IsCarried Performed status (Ok old) (Ok new) out err out2 err2 = Performed old new
+IsCarried Performed status (Err refusal) (Err same) out err out2 err2 =
+    (same ≡ refusal) × (status ≡ 1) × HasTold refusal err err2 × (out2 ≡ out)
+IsCarried Performed status opened left out err out2 err2 = ⊥
+
+-- the same of a depot
 abbrev pub HasCarried :
     {H : Type 0} → (H → State) → Command → ℕ → Result H Refusal → Result H Refusal
     → Output → Output → Output → Output → Type 0
-HasCarried store command status (Ok old) (Ok new) out err out2 err2 =
-    HasPerformed command status (store_and_outputs (store old) out err) (store_and_outputs (store new) out2 err2)
-HasCarried store command status (Err refusal) (Err same) out err out2 err2 =
-    (same ≡ refusal) × (status ≡ 1) × HasTold refusal err err2 × (out2 ≡ out)
-HasCarried store command status opened left out err out2 err2 = ⊥
+HasCarried store command status opened left out err out2 err2 =
+    IsCarried (λ old new. HasPerformed command status (store_and_outputs (store old) out err) (store_and_outputs (store new) out2 err2))
+    status opened left out err out2 err2
 
 -- what a crash may leave of the depot, where one was opened: what it could leave before, or what the
 -- command makes of it

@@ -6,3 +6,4 @@ pub mod Looking
 pub mod NoDepots
 pub mod Carrying
 pub mod Saving
+pub mod VolumeTasks

@@ -12,58 +12,80 @@ use Rattle.printing.specs.Printed.{line, wrote_text}
 use Rattle.depot_cli.specs.Tasks.{HasRefused}
 use Rattle.depot_cli.specs.declared.saving.Saving.{Saving}
 
+-- ---- what comes of saving, by when the user's program, if he has one, was given, and when it was withheld
+
+module _ (Gave : Option (List ℕ) → Type 0) (Withheld : Refusal → Type 0) (saving : Saving) where
+  -- the user has this program, and it was made the file
+  abbrev pub IsSavedFile : List ℕ → HostState → HostState → Type 0
+  IsSavedFile program host host2 = Gave (Some program) × HasMade saving.out.now saving.name.now program host host2
+
+  -- No file was made: the user has no program, it was withheld, or the file of the program could not be made.
+  abbrev pub IsNoFile : Refusal → HostState → HostState → Type 0
+  IsNoFile refusal host host2 =
+      ((refusal ≡ NoSuchEntry) × Gave None × (host2 ≡ host))
+      ⊎ ((Withheld refusal × (host2 ≡ host))
+      ⊎ ((program : List ℕ) × Gave (Some program) × HasNotMade refusal saving.out.now saving.name.now host host2))
+
+  -- the program was saved, and how many octets it has was written, or that broke off
+  abbrev pub IsSaved : ℕ → HostAndOutputs → HostAndOutputs → Type 0
+  IsSaved status old new =
+      (program : List ℕ) × IsSavedFile program old.host new.host
+      × (((status ≡ 0) × HasTaken (line (wrote_text (length program))) old.out new.out × (new.err ≡ old.err))
+      ⊎ ((status ≡ 1) × HasBroken (line (wrote_text (length program))) old.out new.out × HasTold Write old.err new.err))
+
+  -- the refusal was told, with status 1
+  abbrev pub IsNotSaved : ℕ → HostAndOutputs → HostAndOutputs → Type 0
+  IsNotSaved status old new =
+      (refusal : Refusal) × IsNoFile refusal old.host new.host
+      × (status ≡ 1) × HasTold refusal old.err new.err × (new.out ≡ old.out)
+
+-- What opening gave was asked for the program, which ended so, and it is open still; or the refusal of opening was
+-- told, with status 1.
+abbrev pub IsServed :
+    {H : Type 0} → (H → H → Type 0) → ℕ → Result H Refusal → Result H Refusal
+    → HostAndOutputs → HostAndOutputs → Type 0
+IsServed Ended status (Ok was) (Ok is) old new = Ended was is
+IsServed Ended status (Err refusal) (Err same) old new =
+    (same ≡ refusal) × (status ≡ 1) × HasTold refusal old.err new.err
+    × (new.out ≡ old.out) × (new.host ≡ old.host)
+IsServed Ended status opened left old new = ⊥
+
+-- ---- from a depot
+
 -- the depot told the user's program, if he has one, and holds that still, as long as its disk
 -- returns what was written
 abbrev pub HasGiven : List ℕ → Option (List ℕ) → State → State → Type 0
 HasGiven user program old new =
     HasCleanDisk new → Does (ProgramOf user) (Program program) old new × LeavesUnchanged old new
 
--- the user has this program, and it was made the file
-abbrev pub HasSavedFile : Saving → List ℕ → State → State → HostState → HostState → Type 0
-HasSavedFile saving program old new host host2 =
-    HasGiven saving.user.now (Some program) old new
-    × HasMade saving.out.now saving.name.now program host host2
-
 -- the depot refused to tell it, and holds what it held
 abbrev pub HasWithheld : List ℕ → Refusal → State → State → Type 0
 HasWithheld user refusal old new = HasRefused (ProgramOf user) refusal old new
 
--- No file was made: the user has no program, the depot refused to tell it, or the file of the
--- program could not be made.
+abbrev pub HasSavedFile : Saving → List ℕ → State → State → HostState → HostState → Type 0
+HasSavedFile saving program old new host host2 =
+    IsSavedFile (λ p. HasGiven saving.user.now p old new) (λ e. HasWithheld saving.user.now e old new) saving program host host2
+
 abbrev pub IsUnsaved : Saving → Refusal → State → State → HostState → HostState → Type 0
 IsUnsaved saving refusal old new host host2 =
-    ((refusal ≡ NoSuchEntry) × HasGiven saving.user.now None old new × (host2 ≡ host))
-    ⊎ ((HasWithheld saving.user.now refusal old new × (host2 ≡ host))
-    ⊎ ((program : List ℕ) × HasGiven saving.user.now (Some program) old new
-    × HasNotMade refusal saving.out.now saving.name.now host host2))
+    IsNoFile (λ p. HasGiven saving.user.now p old new) (λ e. HasWithheld saving.user.now e old new) saving refusal host host2
 
--- the program was saved, and how many octets it has was written, or that broke off
 abbrev pub HasSaved : Saving → ℕ → State → State → HostAndOutputs → HostAndOutputs → Type 0
 HasSaved saving status old new host_and_outputs world2 =
-    (program : List ℕ) × HasSavedFile saving program old new host_and_outputs.host world2.host
-    × (((status ≡ 0) × HasTaken (line (wrote_text (length program))) host_and_outputs.out world2.out
-    × (world2.err ≡ host_and_outputs.err))
-    ⊎ ((status ≡ 1) × HasBroken (line (wrote_text (length program))) host_and_outputs.out world2.out
-    × HasTold Write host_and_outputs.err world2.err))
+    IsSaved (λ p. HasGiven saving.user.now p old new) (λ e. HasWithheld saving.user.now e old new) saving status host_and_outputs world2
 
--- the refusal was told, with status 1
 abbrev pub HasNotSaved : Saving → ℕ → State → State → HostAndOutputs → HostAndOutputs → Type 0
 HasNotSaved saving status old new host_and_outputs world2 =
-    (refusal : Refusal) × IsUnsaved saving refusal old new host_and_outputs.host world2.host
-    × (status ≡ 1) × HasTold refusal host_and_outputs.err world2.err × (world2.out ≡ host_and_outputs.out)
+    IsNotSaved (λ p. HasGiven saving.user.now p old new) (λ e. HasWithheld saving.user.now e old new) saving status host_and_outputs world2
 
--- What opening a depot gave was asked for the program: it was saved, or was not, and the depot is
--- open still; or the refusal of opening was told, with status 1.
+-- what opening a depot gave was asked for it: it was saved, or was not
 abbrev pub HasServed :
     {H : Type 0} → (H → State) → Saving → ℕ → Result H Refusal → Result H Refusal
     → HostAndOutputs → HostAndOutputs → Type 0
-HasServed store saving status (Ok old) (Ok new) host_and_outputs world2 =
-    HasSaved saving status (store old) (store new) host_and_outputs world2
-    ⊎ HasNotSaved saving status (store old) (store new) host_and_outputs world2
-HasServed store saving status (Err refusal) (Err same) host_and_outputs world2 =
-    (same ≡ refusal) × (status ≡ 1) × HasTold refusal host_and_outputs.err world2.err
-    × (world2.out ≡ host_and_outputs.out) × (world2.host ≡ host_and_outputs.host)
-HasServed store saving status opened left host_and_outputs world2 = ⊥
+HasServed store saving status opened left host_and_outputs world2 =
+    IsServed (λ old new. HasSaved saving status (store old) (store new) host_and_outputs world2
+    ⊎ HasNotSaved saving status (store old) (store new) host_and_outputs world2)
+    status opened left host_and_outputs world2
 
 -- a crash leaves nothing of the depot that it couldn't leave before
 abbrev pub OutlastsSaving :

@@ -39,33 +39,36 @@ HasRefused command refusal old new =
     MayRefuse command refusal
     × (HasCleanDisk new → HasCause refusal command old × HasFault command old new refusal × LeavesUnchanged old new)
 
--- and the reply was written whole
-abbrev pub HasReplied : Command → StoreAndOutputs → StoreAndOutputs → Type 0
-HasReplied command old new =
-    (reply : Reply) × HasDone command reply old.store new.store × HasTaken (reply_text command reply) old.out new.out
-    × (new.err ≡ old.err)
+-- ---- what comes of a command, by when it was done with a reply, and when it was refused
 
--- or broke off, which the command outlasts
-abbrev pub HasBrokenOff : Command → StoreAndOutputs → StoreAndOutputs → Type 0
-HasBrokenOff command old new =
-    (reply : Reply) × HasDone command reply old.store new.store × HasBroken (reply_text command reply) old.out new.out
-    × HasTold Write old.err new.err
+module _ (Done : Reply → Type 0) (Refused : Refusal → Type 0) (command : Command) (out err out2 err2 : Output) where
+  -- it was done, and its reply was written whole
+  abbrev pub IsReplied : Type 0
+  IsReplied = (reply : Reply) × Done reply × HasTaken (reply_text command reply) out out2 × (err2 ≡ err)
 
--- or memory was refused for the next piece of an export, of which the first were written
-abbrev pub HasRunOut : Command → StoreAndOutputs → StoreAndOutputs → Type 0
-HasRunOut command old new =
-    IsExport command × (reply : Reply) × HasDone command reply old.store new.store
-    × HasBegun (reply_text command reply) old.out new.out × HasTold Memory old.err new.err
+  -- or broke off, which the command outlasts
+  abbrev pub IsBrokenOff : Type 0
+  IsBrokenOff = (reply : Reply) × Done reply × HasBroken (reply_text command reply) out out2 × HasTold Write err err2
 
--- the depot refused the command, and is as it was; of an export that is none of Write, which has no
--- cause in any other command
-abbrev pub HasDeclined : Command → StoreAndOutputs → StoreAndOutputs → Type 0
-HasDeclined command old new =
-    (refusal : Refusal) × (IsExport command → refusal ≢ Write) × HasRefused command refusal old.store new.store
-    × HasTold refusal old.err new.err × (new.out ≡ old.out)
+  -- or memory was refused for the next piece of an export, of which the first were written
+  abbrev pub IsRunOut : Type 0
+  IsRunOut =
+      IsExport command × (reply : Reply) × Done reply × HasBegun (reply_text command reply) out out2
+      × HasTold Memory err err2
 
--- a command was performed, with this status: 0 for a reply that was written whole, else 1
+  -- it was refused, which was told, and nothing else was written; of an export that is none of Write, which has no cause
+  -- in any other command
+  abbrev pub IsDeclined : Type 0
+  IsDeclined =
+      (refusal : Refusal) × (IsExport command → refusal ≢ Write) × Refused refusal × HasTold refusal err err2
+      × (out2 ≡ out)
+
+  -- it was performed, with this status: 0 for a reply that was written whole, else 1
+  abbrev pub IsPerformed : ℕ → Type 0
+  IsPerformed status = ((status ≡ 0) × IsReplied) ⊎ ((status ≡ 1) × (IsBrokenOff ⊎ IsRunOut ⊎ IsDeclined))
+
+-- a command was performed on a depot, with this status
 abbrev pub HasPerformed : Command → ℕ → StoreAndOutputs → StoreAndOutputs → Type 0
 HasPerformed command status old new =
-    ((status ≡ 0) × HasReplied command old new)
-    ⊎ ((status ≡ 1) × (HasBrokenOff command old new ⊎ HasRunOut command old new ⊎ HasDeclined command old new))
+    IsPerformed (λ reply. HasDone command reply old.store new.store) (λ refusal. HasRefused command refusal old.store new.store)
+    command old.out old.err new.out new.err status
