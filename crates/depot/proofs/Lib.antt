@@ -5,3 +5,4 @@ mod Turned
 mod Served
 mod Saved
 mod Looked
+mod Numerals
