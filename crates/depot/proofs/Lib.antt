@@ -6,3 +6,4 @@ mod Served
 mod Saved
 mod Looked
 mod Numerals
+mod Unheld

@@ -105,7 +105,7 @@ const COMMANDS: &[Row] = &[
     Row {
         word: "init",
         arguments: &[Argument::Folder],
-        about: "Make a depot in volumes: a folder of depot files, for an archive of any size",
+        about: "Make a depot in a folder of files, for an archive that grows",
         ending: help::INIT,
     },
     Row {
