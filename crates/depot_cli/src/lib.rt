@@ -5,7 +5,9 @@
 //! (`specs/Requests`). [`perform`] has the depot do a task: it writes exactly the reply, or the line of the refusal
 //! (`specs/Tasks`, `specs/Printed`). The caller that opened the depot's file passes a task to [`carry`] as a
 //! [`PendingTask`] (`specs/Carrying`), a program that is saved to [`save`] (`specs/Saving`), and a file that is
-//! inspected or scrubbed to [`look_opened`] (`specs/Looking`).
+//! inspected or scrubbed to [`look_opened`] (`specs/Looking`). For a depot in volumes it is [`carry_on_volumes`] and
+//! [`save_on_volumes`] (`specs/VolumeTasks`). What comes of a task, and of a program that is saved, is defined once for
+//! both, by when the command was done with a reply and when it was refused.
 //!
 //! Replies and reports are printed on a [`Page`](devices::Page), which the call that has the sink makes and flushes.
 //! So the text of up to 65,536 bytes is one write, and a longer one is written in pieces of that size. Only an export
@@ -47,6 +49,28 @@
 //! was refused. The words of the process are taken as they are, all of them and in their order.
 //!
 //! By `carry`, `look_opened`, `NoDepot::of`; `words`, `texts` of depot_jobs.
+//!
+//! ## Tasks on volumes
+//!
+//! A task on a depot in volumes is one command of all volumes together as one depot. Its reply is printed whole with
+//! status 0, or breaks off with status 1 while the command stays done, if the writer fails or memory is refused for a
+//! piece of an export. Or the one line of its refusal is printed, with status 1, and what the volumes hold together is
+//! as it was; the next volume can have begun. Such a refusal is one that the command can get, or `Memory` or
+//! `Database`, because the volumes can't be opened, read or begun. `NoSuchEntry` and `NumberFull` have their cause in
+//! what the volumes hold together. An export is reported as a failed write only if the writer failed. If opening the
+//! volumes was refused, that refusal is printed, and nothing else is done.
+//!
+//! A program that is saved is the user's program in the newest volume. It is made a file as a program of one depot is
+//! ("Saving a program").
+//!
+//! The status and which refusals can come are promised always. That the reply is that of the command, and what becomes
+//! of the volumes, is promised as long as no depot is shut by a failure. The contracts say neither why `Database` is
+//! reported nor what a crash leaves. A catalog of volumes is refused as `Database`.
+//!
+//! All this holds for whatever implements the trait `Volumes`. That a folder of files keeps what the trait promises is
+//! tested, not proved.
+//!
+//! By `carry_on_volumes`, `perform_on_volumes`, `reply_on_volumes`, `save_on_volumes`; the calls of volumes.
 //!
 //! ## Saving a program
 //!

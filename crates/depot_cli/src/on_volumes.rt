@@ -41,13 +41,14 @@ pub fn carry_on_volumes<S: Alter, V: Volumes<S, Depot<S>>, O: Sink, E: Sink>(
     }
 }
 
-/// Does a task on volumes, which answer as one depot: writes its reply to `out` and returns 0, or writes the line of its
-/// refusal to `err` and returns 1. If the newest volume has `most` bytes or more, the next one begins before a delivery.
+/// Does a task on volumes, which answer as one depot: writes its reply to `out` and returns 0, or writes the line of
+/// its refusal to `err` and returns 1. If the newest volume has `most` bytes or more, the next one begins before a
+/// delivery.
 ///
-/// Writing begins after the command is done and allocates no memory, except for the text of an export, which is written
-/// in pieces. If `out` fails, or memory is refused for a piece, the beginning of the reply was written there, what was
-/// done remains done, the line of `Write` or of `Memory` is written to `err`, and the status is 1. If the command is
-/// refused, what the volumes hold together is as it was; the next volume can have begun.
+/// Writing begins after the command is done and allocates no memory, except for the text of an export, which is
+/// written in pieces. If `out` fails, or memory is refused for a piece, the beginning of the reply was written there,
+/// what was done remains done, the line of `Write` or of `Memory` is written to `err`, and the status is 1. If the
+/// command is refused, what the volumes hold together is as it was; the next volume can have begun.
 pub fn perform_on_volumes<S: Alter, V: Volumes<S, Depot<S>>, O: Sink, E: Sink>(
     alloc: Global,
     task: &Task<'_>,
@@ -73,8 +74,7 @@ pub fn perform_on_volumes<S: Alter, V: Volumes<S, Depot<S>>, O: Sink, E: Sink>(
             answer_on_volumes(alloc, asked, volumes, most, out, err)
         }
         Task::OnUser(access, user) => {
-            let asked = WithReply::OnUser(*access, user);
-            answer_on_volumes(alloc, asked, volumes, most, out, err)
+            answer_on_volumes(alloc, WithReply::OnUser(*access, user), volumes, most, out, err)
         }
         Task::Migrate => answer_on_volumes(alloc, WithReply::Migrate, volumes, most, out, err),
     }
@@ -157,13 +157,16 @@ pub fn reply_on_volumes<S: Alter, V: Volumes<S, Depot<S>>>(
     }
 }
 
-/// Saves a user's program, read from the result of opening the volumes of a depot, as a file, whole or not at all. Writes
-/// to `out` how many bytes it has and returns 0; or writes the line of its refusal, or of the open's refusal, to `err` and
-/// returns 1. The volumes stay as they are, and open.
+/// Saves a user's program, read from the result of opening the volumes of a depot, as a file, whole or not at all.
+/// Writes to `out` how many bytes it has and returns 0; or writes the line of its refusal, or of the open's refusal,
+/// to `err` and returns 1. The volumes stay as they are, and open.
 ///
-/// The refusals are those of [`volumes::program_of`]; `NoSuchEntry` if the user has no program; and `Memory` or `Write` if
-/// the file can't be made. If `out` fails, the file exists, the beginning of the line was written to `out` and the line of
+/// The refusals are those of [`program_of`]; `NoSuchEntry` if the user has no program; and `Memory` or `Write` if the
+/// file can't be made. If `out` fails, the file exists, the beginning of the line was written to `out` and the line of
 /// `Write` to `err`, and the status is 1.
+///
+/// The host is asked to make the file from `saving.name`, which stands for all volumes. It can't tell by that name
+/// which files are volumes: the caller must not pass the name of one as `saving.out`.
 pub fn save_on_volumes<S: Alter, V: Volumes<S, Depot<S>>, H: Host, O: Sink, E: Sink>(
     alloc: Global,
     saving: Saving<'_>,

@@ -14,11 +14,12 @@
 //!
 //! ## Depots in volumes
 //!
-//! No command of `depot` makes or opens volumes: these are laws about the definitions, and calls over a trait.
+//! These are laws about the definitions, and calls over a trait. `depot_cli` does tasks with the calls ("Tasks on
+//! volumes").
 //!
 //! The crate of tests `volumes_rows` implements the trait for depots that stay open, over any store; this is proved. Its
-//! tests run the calls on one to nine volumes in memory. Nothing implements the trait over a folder of files, so nothing
-//! shows that files can keep its promises.
+//! tests run the calls on one to nine volumes in memory. The program implements the trait over a folder of files. That
+//! files keep what the trait promises is tested, not proved.
 //!
 //! ### What volumes hold together
 //!

@@ -1,7 +1,7 @@
 use Rattle.std.proofs.Common.{inl, inr, refl, sym}
 use Rattle.depot_actions.specs.DepotState.{Text}
 use Rattle.depot_actions.specs.DepotState as depot
-use Rattle.depot_cli.proofs.TaskLemmas.{stopped}
+use Rattle.depot_cli.proofs.TaskLemmas.{stopped_on_depot}
 use Rattle.depot_cli.proofs.task.perform.Goals as goal
 
 pub returns-in-Ok-clause-performed : goal.returns-in-Ok-clause-performed
@@ -13,7 +13,7 @@ pub returns-in-Err-clause-performed : goal.returns-in-Err-clause-performed
 returns-in-Err-clause-performed g c =
     let all = c.in-Err.ensures in
     let command = depot.Export c.in-Export.user.now c.in-Export.number c.in-Export.encoding in
-    rw c.in-Export.is (stopped c.in-Err.refusal command c.tell.result _ _ tt
+    rw c.in-Export.is (stopped_on_depot c.in-Err.refusal command c.tell.result _ _ tt
     (λ is. let broke = all.stopped is in (Text broke.0, broke.2, broke.1))
     (λ is. elim (all.begun is) [ inl same ↦ inl same | inr begun ↦ inr (Text begun.0, begun.2, begun.1) ])
     all.unwritten (all.which, λ clean. (all.refused clean, all.cause clean, all.unchanged clean)) c.tell.ensures.status c.tell.ensures.told)
