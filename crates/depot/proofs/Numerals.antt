@@ -1,8 +1,9 @@
 -- Names of volumes: eight digits and an ending.
-use Rattle.std.proofs.Common.{◌≡◌, ◌≢◌, ◌∙◌, ◌+◌, ◌-◌, ◌*◌, ◌^◌, ◌<◌, ◌≤◌, ℕ, zero, suc, List, [], ◌∷◌, ◌++◌, false, append_assoc, append-nil, ap, arith, get_or, length, refl, replicate, subst, sym}
+use Rattle.std.proofs.Common.{◌≡◌, ◌≢◌, ◌∙◌, ◌+◌, ◌-◌, ◌*◌, ◌^◌, ◌<◌, ◌≤◌, ℕ, zero, suc, List, [], ◌∷◌, ◌++◌, None, false, append_assoc, append-nil, ap, arith, get_or, length, refl, replicate, subst, sym}
 use Rattle.std.specs.Prelude.{codes}
 use Rattle.std.specs.Char.{digit_value}
 use Rattle.std.specs.Fmt.{decimal, format_spec, padded_integral}
+use Rattle.std.specs.Str.Pattern.{FindsTextSuffix, StripsSuffix}
 use Rattle.std.specs.Str.Parse.{AllDigits, IsNumeral, digits_value, digits_value_after, without_leading_plus}
 use Rattle.std.proofs.lemmas.Bool.Decides.{nat_tests}
 use Rattle.std.proofs.lemmas.Fmt.{decimal_is_IsNumeral, length-decimal-le}
@@ -61,6 +62,13 @@ only_name : (number : ℕ) (name other : List ℕ) → IsVolumeName number name 
 only_name number name other one another =
     let same = (same_after 0 0 another.digits one.digits (another.eight ∙ sym one.eight) another.decimal one.decimal (another.writes ∙ sym one.writes)).1 in
     another.is ∙ ap (λ (ds : List ℕ). ds ++ codes ".depot") same ∙ sym one.is
+
+-- what is left where the ending was taken away, and what isn't where there was none
+pub ending_off : (name digits : List ℕ) → StripsSuffix (FindsTextSuffix (codes ".depot")) name digits → name ≡ digits ++ codes ".depot"
+ending_off name digits strips = strips.1.1 ∙ ap (λ (front : List ℕ). front ++ codes ".depot") (sym strips.2)
+
+pub no_ending : (name : List ℕ) → FindsTextSuffix (codes ".depot") name None → (number : ℕ) → IsVolumeName number name → ⊥
+no_ending name none number v = none v.digits v.is
 
 -- of a name whose ending was taken away, these are the digits
 module _ (name digits : List ℕ) (is : name ≡ digits ++ codes ".depot") where

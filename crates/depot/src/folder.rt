@@ -119,7 +119,8 @@ fn open_finished(
     let users = users_of(&mut earlier)?;
     let volume = open_volume(rt, path, newest)?;
     let mut store = volume.release();
-    if users_of(&mut store)?.is_empty() {
+    let there = users_of(&mut store)?;
+    if there.is_empty() {
         fill(&mut store, &users)?;
     }
     close_volume(Depot::adopt(earlier));
@@ -131,15 +132,36 @@ fn open_newest(rt: &HostRuntime, path: &str, numbers: Numbers) -> Result<Volume,
     let newest = numbers.newest();
     let volume = open_volume(rt, path, newest)?;
     let mut store = volume.release();
-    if numbers.count == 1 || !users_of(&mut store)?.is_empty() {
+    if numbers.count == 1 {
+        return Ok(Depot::adopt(store));
+    }
+    let users = users_of(&mut store)?;
+    if !users.is_empty() {
         return Ok(Depot::adopt(store));
     }
     close_volume(Depot::adopt(store));
     open_finished(rt, path, newest.saturating_sub(1), newest)
 }
 
+// Opens the newest volume. Returns `None` if a later one has come before it was open.
+fn hold_once<'a>(rt: &'a HostRuntime, path: &'a str) -> Result<Option<Folder<'a>>, Refusal> {
+    let before = numbers_in(rt, path)?;
+    let volume = open_newest(rt, path, before)?;
+    let numbers = numbers_in(rt, path)?;
+    if numbers.newest() != before.newest() {
+        close_volume(volume);
+        return Ok(None);
+    }
+    Ok(Some(Folder {
+        rt,
+        path,
+        numbers,
+        newest: Some(volume),
+    }))
+}
+
 impl<'a> Folder<'a> {
-    /// Lists the volumes of the folder at a path, for a command that leaves the newest as it is.
+    /// Lists the volumes of the folder at a path, for a command for which the next one can begin meanwhile.
     ///
     /// # Errors
     ///
@@ -156,28 +178,18 @@ impl<'a> Folder<'a> {
         })
     }
 
-    /// Lists the volumes of the folder at a path, for a command that changes the newest or is only about it. That one is
-    /// opened, is finished, and stays the newest until this is closed.
+    /// Lists the volumes of the folder at a path, for a command that is done on the newest. That one is opened, is
+    /// finished, and stays the newest until this is closed.
     ///
     /// # Errors
     ///
     /// - `Memory` if memory is refused.
     /// - `Database` if [`Folder::list`] is refused that, or the newest volume can't be opened.
     pub fn hold(rt: &'a HostRuntime, path: &'a str) -> Result<Folder<'a>, Refusal> {
-        let mut numbers = numbers_in(rt, path)?;
         for _ in 0..MAX_TRIES {
-            let newest = open_newest(rt, path, numbers)?;
-            let found = numbers_in(rt, path)?;
-            if found.newest() == numbers.newest() {
-                return Ok(Folder {
-                    rt,
-                    path,
-                    numbers: found,
-                    newest: Some(newest),
-                });
+            if let Some(folder) = hold_once(rt, path)? {
+                return Ok(folder);
             }
-            close_volume(newest);
-            numbers = found;
         }
         Err(Refusal::Database)
     }

@@ -172,8 +172,8 @@ fn perform_in_folder<O: Sink, E: Sink>(
     err: &mut E,
 ) -> u8 {
     let mut opened = match &pending.task {
-        Task::FromFile(..) | Task::Migrate => Folder::hold(rt, pending.name),
-        Task::OnUser(..) | Task::Export { .. } => Folder::list(rt, pending.name),
+        Task::FromFile(_, _, _) | Task::Migrate => Folder::hold(rt, pending.name),
+        Task::OnUser(_, _) | Task::Export { .. } => Folder::list(rt, pending.name),
     };
     let status = carry_on_volumes(rt.alloc(), pending, &mut opened, VOLUME_SIZE, out, err);
     close_folder(opened);
