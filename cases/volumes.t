@@ -309,6 +309,10 @@ Several volumes.
     00000002.depot-wal
     $ rm -r archive
 
+## many commands on many volumes answer as a plain model does
+    $ "$TOP/cases/volume_history" depot
+    150 commands and two lists after each, 0 differ
+
 A volume that was not finished.
 
 ## an empty file, as a crash leaves it, is finished by the next delivery
