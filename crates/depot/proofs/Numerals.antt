@@ -1,10 +1,11 @@
 -- Names of volumes: eight digits and an ending.
-use Rattle.std.proofs.Common.{◌≡◌, ◌≢◌, ◌∙◌, ◌+◌, ◌-◌, ◌*◌, ◌^◌, ◌<◌, ◌≤◌, ℕ, zero, suc, List, [], ◌∷◌, ◌++◌, None, false, append_assoc, append-nil, ap, arith, get_or, length, refl, replicate, subst, sym}
+use Rattle.std.proofs.Common.{◌≡◌, ◌≢◌, ◌∙◌, ◌+◌, ◌-◌, ◌*◌, ◌^◌, ◌<◌, ◌≤◌, Bool, ℕ, zero, suc, List, [], ◌∷◌, ◌++◌, None, append_assoc, append-nil, ap, arith, cond, drop, get_or, length, refl, replicate, subst, sym}
 use Rattle.std.specs.Prelude.{codes}
 use Rattle.std.specs.Char.{digit_value}
 use Rattle.std.specs.Fmt.{decimal, format_spec, padded_integral}
 use Rattle.std.specs.Str.Pattern.{FindsTextSuffix, StripsSuffix}
 use Rattle.std.specs.Str.Parse.{AllDigits, IsNumeral, digits_value, digits_value_after, without_leading_plus}
+use Rattle.std.proofs.lemmas.Bool.{ne_eqb}
 use Rattle.std.proofs.lemmas.Bool.Decides.{nat_tests}
 use Rattle.std.proofs.lemmas.Fmt.{decimal_is_IsNumeral, length-decimal-le}
 use Rattle.std.proofs.lemmas.Int.Digits.{digits_value-lt}
@@ -109,4 +110,4 @@ module _ (name digits : List ℕ) (is : name ≡ digits ++ codes ".depot") where
 
 -- where no plus stands first
 pub bare : (digits : List ℕ) → get_or digits 0 0 ≢ 43 → without_leading_plus digits ≡ digits
-bare digits other = grind (arith, nat_tests)
+bare digits other = ap (λ (b : Bool). drop (cond b 1 0) digits) (ne_eqb (get_or digits 0 0) 43 other)
