@@ -246,6 +246,7 @@ impl<'a> Folder<'a> {
     }
 }
 
+#[tactic(auto, using(crate::proofs::Unheld::added, crate::proofs::Unheld::closed, crate::proofs::Unheld::keeps, crate::proofs::Unheld::made, crate::proofs::Unheld::opened))]
 impl Volumes<FileStore<FileFrom<Unknown>>, Volume> for Folder<'_> {
     ghost use Rattle.depot.specs.Folders.{unknown};
 
@@ -256,7 +257,10 @@ impl Volumes<FileStore<FileFrom<Unknown>>, Volume> for Folder<'_> {
     }
 
     fn open(&mut self, place: usize) -> Result<Volume, Refusal> {
-        self.lend(place)
+        match self.lend(place) {
+            Ok(volume) => Ok(volume),
+            Err(refusal) => Err(refusal),
+        }
     }
 
     fn close(&mut self, place: usize, depot: Volume) {
@@ -283,7 +287,10 @@ impl Volumes<FileStore<FileFrom<Unknown>>, Volume> for Folder<'_> {
         if self.newest.is_none() || newest >= MAX_NUMBER {
             return Err(Refusal::Database);
         }
-        make_volume(self.rt, self.path, newest.saturating_add(1))
+        match make_volume(self.rt, self.path, newest.saturating_add(1)) {
+            Ok(volume) => Ok(volume),
+            Err(refusal) => Err(refusal),
+        }
     }
 
     fn append(&mut self, depot: Volume) {

@@ -65,7 +65,10 @@ pub fn make_volume(rt: &HostRuntime, folder: &str, number: u32) -> Result<Volume
     if answered(is_taken(rt, path.as_str()))? {
         return Err(Refusal::Database);
     }
-    Depot::open_from(rt, path.as_str(), Unknown)
+    match Depot::open_from(rt, path.as_str(), Unknown) {
+        Ok(volume) => Ok(volume),
+        Err(refusal) => Err(refusal),
+    }
 }
 
 // Whether something has the name at a path.
