@@ -5,5 +5,3 @@ mod Turned
 mod Served
 mod Saved
 mod Looked
-mod Numerals
-mod Unheld

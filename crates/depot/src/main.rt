@@ -59,33 +59,25 @@
 //!
 //! ## A depot in a folder
 //!
-//! The path of a volume is that of its folder, and a name of eight decimal digits, which write its number, and
-//! `.depot`. Each number has one such name, and a name has at most one number; any other name is none.
+//! The line of a folder that was made is written whole, or breaks off with status 1. What is done with the volumes of a
+//! folder is promised for any that follow one another ("Tasks on volumes"), and not for files of the system.
 //!
-//! What is done with the volumes is promised for any that follow one another ("Tasks on volumes"). That the files of a
-//! folder are such volumes can't be promised: what a file of the system holds is in no contract. So the bodies of
-//! `Folder`, and tests, show which files a command opens, in which order, and that a volume is begun as the trait says.
-//!
-//! By `path_of`, `number_of`; for volumes that follow one another `carry_on_volumes`, `save_on_volumes` of depot_cli.
+//! By `tell_made`; `carry_on_volumes`, `save_on_volumes` of depot_cli.
 #![tactic(auto)]
 
 mod batches;
 mod closing;
-mod folder;
 mod looks;
 mod making;
-mod names;
 mod opening;
 mod place;
 mod programs;
 mod streams;
 mod tasks;
-mod volume;
 
 use crate::batches::serve_from;
-use crate::folder::Folder;
 use crate::looks::look_from;
-use crate::making::{make_folder, tell_made};
+use crate::making::tell_made;
 use crate::opening::OnDisk;
 use crate::place::{Obstacle, look_at};
 use crate::programs::save_from;
@@ -94,6 +86,7 @@ use crate::tasks::carry_from;
 use depot_cli::{
     Look, Next, PendingTask, Saving, carry_on_volumes, run, save_on_volumes, tell_no_depot,
 };
+use depot_folder::{Folder, make_folder};
 use depot_jobs::{Host, System, Task, tell, tell_no_words, texts, words};
 use devices::{OfRead, OfWrite, Sink};
 use refusals::Refusal;

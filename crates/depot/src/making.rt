@@ -1,13 +1,10 @@
-//! The folder of a depot in volumes, made with its first volume.
+//! What is printed of a folder that was made.
 ghost use Rattle.depot.specs.Made.{HasToldMade};
 
-use crate::volume::{answered, close_volume, make_volume};
 use depot_jobs::{SUCCESS, tell};
 use devices::{DeviceFailed, Page, Sink};
 use printing::{Piece, Printable, print, put_printed};
 use refusals::Refusal;
-use std::fs;
-use std::io::ErrorKind;
 
 /// The answer of `init`: the folder with this name was made.
 #[derive(Clone, Copy)]
@@ -43,32 +40,5 @@ pub fn tell_made<O: Sink, E: Sink>(name: &str, out: &mut O, err: &mut E) -> u8
     match put_printed(out, &MadeFolder { name }) {
         Ok(()) => SUCCESS,
         Err(DeviceFailed) => tell(err, &Refusal::Write),
-    }
-}
-
-/// Makes the folder at a path, with the first volume of a depot. An empty folder can be there.
-///
-/// # Errors
-///
-/// - `Memory` if memory is refused.
-/// - `Database` if something else is at the path, or the folder or the volume can't be made. The folder can remain,
-///   without a whole volume.
-pub fn make_folder(rt: &HostRuntime, path: &str) -> Result<(), Refusal> {
-    match fs::create_dir(rt, path) {
-        Ok(()) => {}
-        Err(fault) if fault.kind() == ErrorKind::AlreadyExists => require_empty(rt, path)?,
-        Err(fault) => return answered(Err(fault)),
-    }
-    let first = make_volume(rt, path, 1)?;
-    close_volume(first);
-    Ok(())
-}
-
-// Refuses anything but an empty folder.
-fn require_empty(rt: &HostRuntime, path: &str) -> Result<(), Refusal> {
-    let mut entries = answered(fs::read_dir(rt, path))?;
-    match entries.next() {
-        Some(_) => Err(Refusal::Database),
-        None => Ok(()),
     }
 }

@@ -246,9 +246,9 @@ impl<'a> Folder<'a> {
     }
 }
 
-#[tactic(auto, using(crate::proofs::Unheld::added, crate::proofs::Unheld::closed, crate::proofs::Unheld::keeps, crate::proofs::Unheld::made, crate::proofs::Unheld::opened))]
+#[tactic(auto, using(crate::proofs::Unheld::added, crate::proofs::Unheld::closed, crate::proofs::Unheld::keeps, crate::proofs::Unheld::last, crate::proofs::Unheld::made, crate::proofs::Unheld::opened))]
 impl Volumes<FileStore<FileFrom<Unknown>>, Volume> for Folder<'_> {
-    ghost use Rattle.depot.specs.Folders.{unknown};
+    ghost use Rattle.depot_folder.specs.Folders.{unknown};
 
     ghost holding = { unknown };
 

@@ -11,7 +11,7 @@ use Rattle.std.proofs.lemmas.Bool.Decides.{nat_tests}
 use Rattle.std.proofs.lemmas.Fmt.{decimal_is_IsNumeral, length-decimal-le}
 use Rattle.std.proofs.lemmas.Int.Digits.{digits_value-lt}
 use Rattle.std.proofs.lemmas.List.{append_cancel_right, length-append, length-replicate}
-use Rattle.depot.specs.Names.{IsOnlyNameOf, IsVolumeName, IsVolumePath}
+use Rattle.depot_folder.specs.Names.{IsOnlyNameOf, IsVolumeName, IsVolumePath}
 
 -- ---- from a number to its name
 

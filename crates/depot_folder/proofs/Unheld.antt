@@ -1,17 +1,23 @@
 -- What the calls on volumes promise where nothing is known of the volumes.
-use Rattle.std.proofs.Common.{◌≡◌, ℕ, [], ap, inl, length}
+use Rattle.std.proofs.Common.{◌≡◌, ℕ, List, [], ap, inl, length}
 use Rattle.sqlite_trees.specs.declared.store.Store.{Ghosts}
 use Rattle.sqlite.specs.Held.{Held, state}
 use Rattle.sqlite.specs.Recovery.{Image}
 use Rattle.sqlite.specs.State.{HasCleanDisk}
-use Rattle.part_store.specs.Entries.{no_entries}
+use Rattle.part_store.specs.Entries.{Entries, no_entries}
 use Rattle.part_store.specs.Opening.{HoldsNoTables, IsAt}
-use Rattle.volumes.specs.Holding.{HasAdded, HasClosed, HasMade, HasOpened, Keeps}
-use Rattle.depot.specs.Folders.{unknown}
+use Rattle.volumes.specs.Holding.{HasAdded, HasClosed, HasMade, HasOpened, IsLastAt, Keeps}
+use Rattle.depot_folder.specs.Folders.{unknown}
 
 module _ {V : Type 0} where
   pub keeps : (old new : V) → Keeps unknown old new
   keeps old new = record { same = λ none. absurd none; sound = λ none. absurd none }
+
+  pub last : (old new : V) (user : List ℕ) (place number : ℕ) → IsLastAt unknown old new user place number
+  last old new user place number = λ none. absurd none
+
+  pub counted : (folder : V) (count : ℕ) (vs : List Entries) → ⊥ → length vs ≡ count
+  counted folder count vs none = absurd none
 
   module _ {S : Type 0} (g : Ghosts S) where
     pub opened : (place : ℕ) (old new : V) (depot : Held S) → HasOpened unknown g place old new depot

@@ -6,7 +6,6 @@ ghost use Rattle.part_store.specs.Entries.{no_entries};
 ghost use Rattle.part_store.specs.Opening.{IsAt};
 ghost use Rattle.volumes.specs.Holding.{IsFailure};
 
-use crate::closing::close;
 use crate::names::path_of;
 use depot_actions::Depot;
 use part_store::{PartStore, UserRow};
@@ -82,7 +81,7 @@ fn is_taken(rt: &HostRuntime, path: &str) -> io::Result<bool> {
 
 /// Closes a volume. If that fails, its log stays, and the next open copies it.
 pub fn close_volume(volume: Volume) {
-    let _left = close::<FileFrom<Unknown>, Refusal>(Ok(volume));
+    let _left = volume.release().close_files();
 }
 
 /// Returns the size of the volume with a number in a folder: that of its file and of the log next to it, in bytes.

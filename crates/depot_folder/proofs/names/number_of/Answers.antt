@@ -1,6 +1,6 @@
 use Rattle.std.proofs.Common.{rules, ◌≡◌, get_or, length}
-use Rattle.depot.proofs.Numerals.{bare, ending_off, read}
-use Rattle.depot.proofs.names.number_of.Goals as goal
+use Rattle.depot_folder.proofs.Numerals.{bare, ending_off, read}
+use Rattle.depot_folder.proofs.names.number_of.Goals as goal
 
 pub returns-in-Ok-clause-found : goal.returns-in-Ok-clause-found
 returns-in-Ok-clause-found c =

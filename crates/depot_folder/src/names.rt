@@ -1,7 +1,7 @@
 //! The names of the volumes of a depot in a folder.
 ghost use Rattle.std.specs.Prelude.{◌≡◌, ◌<◌, ◌^◌, IfOk, IfSome, None, ℕ};
 ghost use Rattle.std.specs.String.{string_bytes};
-ghost use Rattle.depot.specs.Names.{IsOnlyNameOf, IsVolumeName, IsVolumePath};
+ghost use Rattle.depot_folder.specs.Names.{IsOnlyNameOf, IsVolumeName, IsVolumePath};
 
 use std::alloc::{AllocError, Global};
 
