@@ -58,25 +58,21 @@ abbrev pub HasGiven : List ℕ → Option (List ℕ) → State → State → Typ
 HasGiven user program old new =
     HasCleanDisk new → Does (ProgramOf user) (Program program) old new × LeavesUnchanged old new
 
+-- the same of the user whose program is saved
+abbrev pub Gives : Saving → State → State → Option (List ℕ) → Type 0
+Gives saving old new program = HasGiven saving.user.now program old new
+
 -- the depot refused to tell it, and holds what it held
-abbrev pub HasWithheld : List ℕ → Refusal → State → State → Type 0
-HasWithheld user refusal old new = HasRefused (ProgramOf user) refusal old new
-
-abbrev pub HasSavedFile : Saving → List ℕ → State → State → HostState → HostState → Type 0
-HasSavedFile saving program old new host host2 =
-    IsSavedFile (λ p. HasGiven saving.user.now p old new) (λ e. HasWithheld saving.user.now e old new) saving program host host2
-
-abbrev pub IsUnsaved : Saving → Refusal → State → State → HostState → HostState → Type 0
-IsUnsaved saving refusal old new host host2 =
-    IsNoFile (λ p. HasGiven saving.user.now p old new) (λ e. HasWithheld saving.user.now e old new) saving refusal host host2
+abbrev pub Withholds : Saving → State → State → Refusal → Type 0
+Withholds saving old new refusal = HasRefused (ProgramOf saving.user.now) refusal old new
 
 abbrev pub HasSaved : Saving → ℕ → State → State → HostAndOutputs → HostAndOutputs → Type 0
 HasSaved saving status old new host_and_outputs world2 =
-    IsSaved (λ p. HasGiven saving.user.now p old new) (λ e. HasWithheld saving.user.now e old new) saving status host_and_outputs world2
+    IsSaved (Gives saving old new) (Withholds saving old new) saving status host_and_outputs world2
 
 abbrev pub HasNotSaved : Saving → ℕ → State → State → HostAndOutputs → HostAndOutputs → Type 0
 HasNotSaved saving status old new host_and_outputs world2 =
-    IsNotSaved (λ p. HasGiven saving.user.now p old new) (λ e. HasWithheld saving.user.now e old new) saving status host_and_outputs world2
+    IsNotSaved (Gives saving old new) (Withholds saving old new) saving status host_and_outputs world2
 
 -- what opening a depot gave was asked for it: it was saved, or was not
 abbrev pub HasServed :

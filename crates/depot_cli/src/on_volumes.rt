@@ -74,7 +74,14 @@ pub fn perform_on_volumes<S: Alter, V: Volumes<S, Depot<S>>, O: Sink, E: Sink>(
             answer_on_volumes(alloc, asked, volumes, most, out, err)
         }
         Task::OnUser(access, user) => {
-            answer_on_volumes(alloc, WithReply::OnUser(*access, user), volumes, most, out, err)
+            answer_on_volumes(
+                alloc,
+                WithReply::OnUser(*access, user),
+                volumes,
+                most,
+                out,
+                err,
+            )
         }
         Task::Migrate => answer_on_volumes(alloc, WithReply::Migrate, volumes, most, out, err),
     }

@@ -6,7 +6,7 @@ ghost use Rattle.std.specs.Prelude.{◌≡◌, IfErr, IfOk, List, length, ℕ};
 ghost use Rattle.sqlite.specs.Held.{state};
 ghost use Rattle.sqlite.specs.State.{Survives};
 ghost use Rattle.depot_jobs.specs.Jobs.{host_and_outputs};
-ghost use Rattle.depot_cli.specs.Saving.{HasNotSaved, HasSaved, HasSavedFile, HasServed, IsUnsaved, OutlastsSaving};
+ghost use Rattle.depot_cli.specs.Saving.{Gives, HasServed, IsNoFile, IsSavedFile, OutlastsSaving, Withholds};
 
 use crate::task::finish;
 use depot_actions::Depot;
@@ -65,10 +65,13 @@ fn save_program<S: Alter, H: Host>(
     host: &mut H,
 ) -> Result<usize, Refusal>
     ensures saved { IfOk result (λ octets. (program : List ℕ) × (octets ≡ length program)
-        × HasSavedFile saving.entry program (state S.Store depot.old) (state S.Store depot.new)
+        × IsSavedFile (Gives saving.entry (state S.Store depot.old) (state S.Store depot.new))
+        (Withholds saving.entry (state S.Store depot.old) (state S.Store depot.new)) saving.entry
+        program (H.state host.old) (H.state host.new)) }
+    ensures unsaved { IfErr result (λ e.
+        IsNoFile (Gives saving.entry (state S.Store depot.old) (state S.Store depot.new))
+        (Withholds saving.entry (state S.Store depot.old) (state S.Store depot.new)) saving.entry e
         (H.state host.old) (H.state host.new)) }
-    ensures unsaved { IfErr result (λ e. IsUnsaved saving.entry e (state S.Store depot.old)
-        (state S.Store depot.new) (H.state host.old) (H.state host.new)) }
     ensures survives { Survives (state S.Store depot.old) (state S.Store depot.new) (λ _. ⊥) }
 {
     match depot.program_of(saving.user)? {
