@@ -352,6 +352,7 @@ Help.
     2>   parts        List the parts of a message, with number, depth, media type, length and SHA-256
     2>   encode       Encode the bytes of standard input as a text
     2>   decode       Decode the text on standard input to bytes
+    2>   init         Make a depot in a folder of files, for an archive that grows
     2>   script       Compile a Sieve script, and store it as the filter of a user
     2>   code         Store a filter program (bytecode) as the filter of a user
     2>   program      Write the filter of a user to a file, as a filter program (bytecode)
@@ -651,6 +652,31 @@ Help.
     2> Status 0: done. 1: refused, with the refusal's number and name on standard error.
     2> 2: the words are not a command, or ask for help.
     2> Refusals: 1 to 3, 45, 46. `depot help NUMBER` explains each, and what to do.
+    [2]
+
+## help init
+    $ depot help init
+    2> Make a depot in a folder of files, for an archive that grows
+    2>
+    2> Usage: depot init <DIR>
+    2>
+    2> Arguments:
+    2>   <DIR>  The folder to make; it can be there if it is empty
+    2>
+    2> Options:
+    2>   -h, --help  Print help
+    2>
+    2> Makes the folder DIR with its first volume, 00000001.depot, and prints `made` and its name. From then
+    2> on DIR can stand for DB in most commands, which answer as if everything were in one file. When the
+    2> newest volume has 8 MiB, the next delivery begins another: a command opens only the volumes that it
+    2> needs. batch, inspect, scrub and catalog take one file, so they take a volume, and not DIR.
+    2>
+    2> Example:
+    2>   depot init archive
+    2>
+    2> Status 0: done. 1: refused, with the refusal's number and name on standard error.
+    2> 2: the words are not a command, or ask for help.
+    2> Refusals: 1, 43, 45. `depot help NUMBER` explains each, and what to do.
     [2]
 
 ## help script

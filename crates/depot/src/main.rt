@@ -56,11 +56,19 @@
 //! that turn. A premise is left ("What is left of a premise").
 //!
 //! By `carry_from`, `serve_from`, `save_from`, `look_from`; `Depot::open_from`, `look_from` of depot_actions.
+//!
+//! ## A depot in a folder
+//!
+//! The line of a folder that was made is written whole, or breaks off with status 1. What is done with the volumes of a
+//! folder is promised for any that follow one another ("Tasks on volumes"), and not for files of the system.
+//!
+//! By `tell_made`; `carry_on_volumes`, `save_on_volumes` of depot_cli.
 #![tactic(auto)]
 
 mod batches;
 mod closing;
 mod looks;
+mod making;
 mod opening;
 mod place;
 mod programs;
@@ -69,19 +77,24 @@ mod tasks;
 
 use crate::batches::serve_from;
 use crate::looks::look_from;
+use crate::making::tell_made;
 use crate::opening::OnDisk;
 use crate::place::{Obstacle, look_at};
 use crate::programs::save_from;
 use crate::streams::hold_closed;
 use crate::tasks::carry_from;
-use depot_cli::{Look, Next, PendingTask, Saving, run, tell_no_depot};
-use depot_jobs::{Host, System, tell, tell_no_words, texts, words};
+use depot_cli::{
+    Look, Next, PendingTask, Saving, carry_on_volumes, run, save_on_volumes, tell_no_depot,
+};
+use depot_folder::{Folder, make_folder};
+use depot_jobs::{Host, System, Task, tell, tell_no_words, texts, words};
 use devices::{OfRead, OfWrite, Sink};
 use refusals::Refusal;
 use sqlite::Unknown;
 use std::io::{BufReader, BufWriter};
 use std::process::ExitCode;
-use std::{env, io, process};
+use std::{env, fs, io, process};
+use volumes::VOLUME_SIZE;
 
 /// How many bytes of a batch's lines are read, and how many of its answers are held back, at a time.
 const PIECE: usize = 65_536;
@@ -109,6 +122,7 @@ fn start<O: Sink, E: Sink>(rt: &HostRuntime, out: &mut O, err: &mut E) -> u8 {
     let mut host = System::new(rt, process::id(rt.process()));
     match run(rt.alloc(), &texts, &mut host, out, err) {
         Next::Exit(status) => status,
+        Next::Init(name) => init_folder(rt, name, out, err),
         Next::Perform(pending) => perform_task(rt, &pending, out, err),
         Next::Inspect(name) => inspect_file(rt, name, out, err),
         Next::Scrub(name) => scrub_file(rt, name, out, err),
@@ -127,18 +141,87 @@ fn on_disk(rt: &HostRuntime) -> OnDisk<'_, Unknown> {
     OnDisk { rt, start: Unknown }
 }
 
-// Opens the depot of a task, and does the task on it.
+// Whether there is a folder at a path.
+fn is_folder(rt: &HostRuntime, path: &str) -> bool {
+    match fs::metadata(rt, path) {
+        Ok(found) => found.is_dir(),
+        Err(_) => false,
+    }
+}
+
+// Makes a folder with the first volume of a depot, and returns the status.
+fn init_folder<O: Sink, E: Sink>(rt: &HostRuntime, name: &str, out: &mut O, err: &mut E) -> u8 {
+    match make_folder(rt, name) {
+        Ok(()) => tell_made(name, out, err),
+        Err(refusal) => tell(err, &refusal),
+    }
+}
+
+// Does a task on the volumes of a folder.
+fn perform_in_folder<O: Sink, E: Sink>(
+    rt: &HostRuntime,
+    pending: &PendingTask<'_>,
+    out: &mut O,
+    err: &mut E,
+) -> u8 {
+    let mut opened = match &pending.task {
+        Task::FromFile(_, _, _) | Task::Migrate => Folder::hold(rt, pending.name),
+        Task::OnUser(_, _) | Task::Export { .. } => Folder::list(rt, pending.name),
+    };
+    let status = carry_on_volumes(rt.alloc(), pending, &mut opened, VOLUME_SIZE, out, err);
+    close_folder(opened);
+    status
+}
+
+// Saves a user's program from the newest volume of a folder. No file is made under the name of that volume or of its
+// log.
+fn save_from_folder<H: Host, O: Sink, E: Sink>(
+    rt: &HostRuntime,
+    saving: Saving<'_>,
+    host: &mut H,
+    out: &mut O,
+    err: &mut E,
+) -> u8 {
+    let folder = match Folder::hold(rt, saving.name) {
+        Ok(folder) => folder,
+        Err(refusal) => return tell(err, &refusal),
+    };
+    let path = match folder.newest_path() {
+        Ok(path) => path,
+        Err(refusal) => return tell(err, &refusal),
+    };
+    let saving = Saving {
+        name: path.as_str(),
+        ..saving
+    };
+    let mut opened = Ok(folder);
+    let status = save_on_volumes(rt.alloc(), saving, &mut opened, host, out, err);
+    close_folder(opened);
+    status
+}
+
+// Closes what is open of a folder.
+fn close_folder(opened: Result<Folder<'_>, Refusal>) {
+    if let Ok(folder) = opened {
+        folder.close();
+    }
+}
+
+// Opens the depot of a task, in a file or a folder, and does the task on it.
 fn perform_task<O: Sink, E: Sink>(
     rt: &HostRuntime,
     pending: &PendingTask<'_>,
     out: &mut O,
     err: &mut E,
 ) -> u8 {
+    if is_folder(rt, pending.name) {
+        return perform_in_folder(rt, pending, out, err);
+    }
     let (status, _left) = carry_from(rt.alloc(), pending, on_disk(rt), out, err);
     status
 }
 
-// Opens the depot of a user, and saves the user's program from it.
+// Opens the depot of a user, in a file or a folder, and saves the user's program from it.
 fn save_program<H: Host, O: Sink, E: Sink>(
     rt: &HostRuntime,
     saving: Saving<'_>,
@@ -146,6 +229,9 @@ fn save_program<H: Host, O: Sink, E: Sink>(
     out: &mut O,
     err: &mut E,
 ) -> u8 {
+    if is_folder(rt, saving.name) {
+        return save_from_folder(rt, saving, host, out, err);
+    }
     let (status, _left) = save_from(rt.alloc(), saving, on_disk(rt), host, out, err);
     status
 }

@@ -10,7 +10,7 @@ use Rattle.depot_jobs.specs.Usage.{HasNoLine}
 use Rattle.depot_jobs.specs.Words.{IsLine}
 use Rattle.depot_jobs.specs.Working.{HasNotWorked, HasWorked}
 use Rattle.depot_jobs.specs.declared.line.CommandLine.{CommandLine}
-use Rattle.depot_jobs.specs.declared.line.CommandLine.TheVariants.{Alone, OnDepot, Program, Inspect, Scrub, Batch}
+use Rattle.depot_jobs.specs.declared.line.CommandLine.TheVariants.{Alone, Init, OnDepot, Program, Inspect, Scrub, Batch}
 use Rattle.depot_jobs.specs.Requests.{Request}
 use Rattle.depot_cli.specs.Requests.{command_of, request_command}
 use Rattle.depot_cli.specs.declared.pending_task.PendingTask.{PendingTask}
@@ -34,10 +34,12 @@ pub record HasNotPrepared (request : Request) (status : ℕ) (old new : HostAndO
   pub is_refused : status ≡ refused
 
 -- What comes of a command. Work was done, with a status, and a request became a task; or what they
--- read was not read. Of all others nothing was done: they are handed on as whose program is saved,
--- from which depot and as which file, as the file that is looked at, and as the depot of a batch.
+-- read was not read. Of all others nothing was done: they are handed on as the folder that is made, as
+-- whose program is saved, from which depot and as which file, as the file that is looked at, and as the
+-- depot of a batch.
 abbrev pub LeadsTo : CommandLine → Next → HostAndOutputs → HostAndOutputs → Type 0
 LeadsTo (Alone work) (next.Exit status) old new = HasWorked work status old new ⊎ HasNotWorked work status old new
+LeadsTo (Init folder) (next.Init name) old new = (name.now ≡ folder.now) × (new ≡ old)
 LeadsTo (OnDepot depot request) (next.Perform pending) old new =
     HasPrepared depot.now request pending old.host new.host × (new.out ≡ old.out) × (new.err ≡ old.err)
 LeadsTo (OnDepot depot request) (next.Exit status) old new = HasNotPrepared request status old new

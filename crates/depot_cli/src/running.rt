@@ -19,6 +19,8 @@ pub enum Next<'a> {
     /// End with this status: 0 for success, 1 for a refusal or an answer that broke off, 2 for words that aren't a
     /// command, and for help.
     Exit(u8),
+    /// Make a folder with this name, and the first volume of a depot in it. Nothing was made.
+    Init(&'a str),
     /// Perform a task on a depot. Its file was read; nothing was done with the depot.
     Perform(PendingTask<'a>),
     /// Report what the file with this name is, and what the depot in it holds. Nothing was opened.
@@ -32,7 +34,8 @@ pub enum Next<'a> {
 }
 
 /// Carries out what the words say; the first is the program's name. A command on a depot is handed back, so that the
-/// caller opens the depot and performs it, and so is a command that looks at a file, saves a program, or reads commands.
+/// caller opens the depot and performs it, and so is a command that makes a folder of volumes, looks at a file, saves a
+/// program, or reads commands.
 ///
 /// The files of the command are read in the order of its words, before anything is done with them, each at most one
 /// byte past the limit of 67,108,864. If one can't be read, its refusal is written to `err`, and nothing after it is
@@ -68,6 +71,7 @@ fn lead<'a, H: Host, O: Sink, E: Sink>(
 {
     match line {
         CommandLine::Alone(work) => Next::Exit(carry_out(alloc, work, host, out, err)),
+        CommandLine::Init { folder } => Next::Init(folder),
         CommandLine::OnDepot { depot, request } => match prepare(alloc, depot, request, host) {
             Ok(pending) => Next::Perform(pending),
             Err(refusal) => Next::Exit(tell(err, &refusal)),

@@ -9,7 +9,7 @@ use Rattle.encodings.specs.declared.encoding.Encoding.{Encoding}
 use Rattle.encodings.specs.declared.encoding.Encoding.TheVariants.{Raw}
 use Rattle.encodings.specs.Names.{encoding_of, name_of}
 use Rattle.depot_jobs.specs.declared.line.CommandLine.{CommandLine}
-use Rattle.depot_jobs.specs.declared.line.CommandLine.TheVariants.{Alone, OnDepot, Program, Inspect, Scrub, Batch}
+use Rattle.depot_jobs.specs.declared.line.CommandLine.TheVariants.{Alone, Init, OnDepot, Program, Inspect, Scrub, Batch}
 use Rattle.depot_jobs.specs.Requests.{Request, Work}
 use Rattle.depot_jobs.specs.declared.host.Input.{Input}
 use Rattle.depot_jobs.specs.declared.host.Input.TheVariants.{Standard, File}
@@ -57,10 +57,11 @@ IsNoRequest name =
     × (name ≢ codes "since") × (name ≢ codes "catalog") × (name ≢ codes "export") × (name ≢ codes "remove")
     × (name ≢ codes "migrate")
 
--- nor of any other command on a depot
+-- nor of any other command on a depot, or of the one that makes a folder of volumes
 abbrev pub IsNoDepotCommand : Text → Type 0
 IsNoDepotCommand name =
-    IsNoRequest name × (name ≢ codes "program") × (name ≢ codes "inspect") × (name ≢ codes "scrub") × (name ≢ codes "batch")
+    IsNoRequest name × (name ≢ codes "init") × (name ≢ codes "program") × (name ≢ codes "inspect") × (name ≢ codes "scrub")
+    × (name ≢ codes "batch")
 
 -- the file whose name is this argument
 abbrev pub IsFile : Text → List Row → Input → Type 0
@@ -142,6 +143,8 @@ SaysRequest Migrate matches rows = IsCommand (codes "migrate") matches rows
 -- the command line says what the matches say
 abbrev pub Says : CommandLine → Option (Text × List Row) → Type 0
 Says (Alone work) matches = SaysWork work matches
+Says (Init folder) matches = (rows : List Row) × IsCommand (codes "init") matches rows
+    × (folder.now ≡ argument (codes "DIR") rows)
 Says (OnDepot depot request) matches = (rows : List Row) × SaysRequest request matches rows
     × (depot.now ≡ argument (codes "DB") rows)
 Says (Program depot user out) matches =

@@ -22,7 +22,11 @@ use std::alloc::Global;
 pub enum CommandLine<'a> {
     /// A command that needs no depot.
     Alone(Work<'a>),
-    /// A command on the depot in a file.
+    /// Make a folder with the first volume of a depot in volumes.
+    Init {
+        folder: &'a str,
+    },
+    /// A command on a depot.
     OnDepot {
         depot: &'a str,
         request: Request<'a>,
@@ -136,6 +140,9 @@ fn depot_line_in<'a>(name: &str, found: &ArgMatches<'a>) -> CommandLine<'a>
 {
     let depot = argument(found, "DB");
     match name {
+        "init" => CommandLine::Init {
+            folder: argument(found, "DIR"),
+        },
         "program" => CommandLine::Program {
             depot,
             user: argument(found, "USER"),

@@ -133,7 +133,12 @@ fn come(rt: &HostRuntime, words: &[&str], room: usize) -> Seen {
     let status = match run(alloc, words, &mut host, &mut out, &mut err) {
         Next::Exit(status) => status,
         // no row has a depot
-        Next::Perform(_) | Next::Inspect(_) | Next::Scrub(_) | Next::Save(_) | Next::Batch(_) => 2,
+        Next::Init(_)
+        | Next::Perform(_)
+        | Next::Inspect(_)
+        | Next::Scrub(_)
+        | Next::Save(_)
+        | Next::Batch(_) => 2,
     };
     Seen {
         status,

@@ -27,6 +27,9 @@ Arguments = List Argument
 abbrev pub depot : Argument
 depot = (codes "DB", any_text)
 
+abbrev pub folder : Argument
+folder = (codes "DIR", any_text)
+
 abbrev pub user : Argument
 user = (codes "USER", any_text)
 
@@ -82,6 +85,7 @@ commands =
     ∷ (codes "parts", message ∷ [])
     ∷ (codes "encode", encoding ∷ [])
     ∷ (codes "decode", encoding ∷ [])
+    ∷ (codes "init", folder ∷ [])
     ∷ (codes "script", depot ∷ user ∷ script ∷ [])
     ∷ (codes "code", depot ∷ user ∷ program ∷ [])
     ∷ (codes "program", depot ∷ user ∷ out ∷ [])

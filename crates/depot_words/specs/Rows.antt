@@ -4,12 +4,13 @@ use Rattle.clap.specs.Words.{Text}
 use Rattle.depot_words.specs.Commands.{Arguments}
 use Rattle.depot_words.specs.Commands as kinds
 use Rattle.depot_words.specs.declared.arguments.Argument.{Argument}
-use Rattle.depot_words.specs.declared.arguments.Argument.TheVariants.{AnyFile, Depot, Encoding, Filter, LastSeen, Listing, Message, Number, Octets, OptionalLastSeen, Out, Parts, Program, Script, User}
+use Rattle.depot_words.specs.declared.arguments.Argument.TheVariants.{AnyFile, Depot, Encoding, Filter, Folder, LastSeen, Listing, Message, Number, Octets, OptionalLastSeen, Out, Parts, Program, Script, User}
 use Rattle.depot_words.specs.declared.commands.Row.{Row}
 
 abbrev pub argument_of : Argument → kinds.Argument
 argument_of Depot = kinds.depot
 argument_of AnyFile = kinds.depot
+argument_of Folder = kinds.folder
 argument_of User = kinds.user
 argument_of Number = kinds.number
 argument_of LastSeen = kinds.last_seen

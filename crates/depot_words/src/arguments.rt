@@ -19,6 +19,8 @@ pub enum Argument {
     Depot,
     /// DB of a command that only reads: any file.
     AnyFile,
+    /// DIR: the folder of a depot in volumes, which is made.
+    Folder,
     /// USER: the name of a user.
     User,
     /// NUMBER: the number of an entry, from 1 to 4,294,967,295.
@@ -66,6 +68,11 @@ impl Argument {
                 "The file of the depot; it is made if it is missing",
             ),
             Argument::AnyFile => required(alloc, "DB", "The file of a depot, or any other file"),
+            Argument::Folder => required(
+                alloc,
+                "DIR",
+                "The folder to make; it can be there if it is empty",
+            ),
             Argument::User => required(
                 alloc,
                 "USER",

@@ -103,6 +103,12 @@ const COMMANDS: &[Row] = &[
         ending: help::DECODE,
     },
     Row {
+        word: "init",
+        arguments: &[Argument::Folder],
+        about: "Make a depot in a folder of files, for an archive that grows",
+        ending: help::INIT,
+    },
+    Row {
         word: "script",
         arguments: &[Argument::Depot, Argument::User, Argument::Script],
         about: "Compile a Sieve script, and store it as the filter of a user",

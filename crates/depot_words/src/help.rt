@@ -176,6 +176,16 @@ pub const DECODE: &str = ending!(
     "1, 2, 10, 45, 46"
 );
 
+/// The end of the help of `init`.
+pub const INIT: &str = ending!(
+    "Makes the folder DIR with its first volume, 00000001.depot, and prints `made` and its name. From then\n\
+     on DIR can stand for DB in most commands, which answer as if everything were in one file. When the\n\
+     newest volume has 8 MiB, the next delivery begins another: a command opens only the volumes that it\n\
+     needs. batch, inspect, scrub and catalog take one file, so they take a volume, and not DIR.",
+    "depot init archive",
+    "1, 43, 45"
+);
+
 /// The end of the help of `script`.
 pub const SCRIPT: &str = user_ending!(
     "Prints `stored`. With an empty script, as without a filter, every message is kept. The depot has\n\

@@ -205,10 +205,11 @@ const MEANINGS: &[Meaning] = &[
         "The file DB can't be opened or made, is no depot, or stayed open in another process for ten seconds;\n\
          its disk is full or failed; a stored filter is no longer an accepted program; or a content that is\n\
          exported, described or scrubbed was altered: its bytes don't have the SHA-256 under which they are\n\
-         stored.",
+         stored. Or the folder DB lacks a volume, or DIR of `init` is there and isn't empty.",
         "`depot inspect DB` reports which; it makes no depot. If it prints `depot`, another process kept the\n\
          file open, so try again, or the disk is full. If it prints `program refused` for a user, store this\n\
          user's filter again. If it prints that there is no such file, look at the rights of the folder.\n\
+         If DB is a folder, inspect its volumes one by one. batch, scrub and catalog don't take a folder.\n\
          `depot scrub DB` lists the entries with altered contents. Such an entry can't be exported, and\n\
          nothing of it is written: see \"Bytes that changed on the disk\" in docs/OPERATING.md.\n\
          The command changed nothing in the depot, unless the disk failed at the last moment: then it can be\n\

@@ -1,0 +1,3 @@
+pub mod Names
+-- private: how the code goes; no public contract names these
+pub mod Folders
