@@ -19,7 +19,7 @@ returns-in_err-octets-clause-cause g c clean =
 
 pub returns-clause-answer : goal.returns-clause-answer
 returns-clause-answer g c clean =
-    kept_of_row c.args.user.now c.args.row.now (state g.S.Store c.args.store.now) _ _ c.keep.result c.map_err.result c.map_err.ensures.cases c.listed_of.ensures
+    kept_of_row c.args.user.now c.args.row.now (state g.S.Store c.args.store.now) c.listed_of.result _ c.keep.result c.map_err.result c.map_err.ensures.cases c.listed_of.ensures
     (λ before stands. let (x, at, is) = c.in_ok-octets.ensures.answer clean before stands in (x, at, c.as_slice.ensures.value ∙ is)) c.keep.ensures.kept
 
 pub returns-clause-refused : goal.returns-clause-refused
