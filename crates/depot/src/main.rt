@@ -67,6 +67,7 @@
 
 mod batches;
 mod closing;
+mod folders;
 mod looks;
 mod making;
 mod opening;
@@ -76,25 +77,21 @@ mod streams;
 mod tasks;
 
 use crate::batches::serve_from;
+use crate::folders::{init_folder, is_folder, perform_in_folder, save_from_folder};
 use crate::looks::look_from;
-use crate::making::tell_made;
 use crate::opening::OnDisk;
 use crate::place::{Obstacle, look_at};
 use crate::programs::save_from;
 use crate::streams::hold_closed;
 use crate::tasks::carry_from;
-use depot_cli::{
-    Look, Next, PendingTask, Saving, carry_on_volumes, run, save_on_volumes, tell_no_depot,
-};
-use depot_folder::{Folder, make_folder};
-use depot_jobs::{Host, System, Task, tell, tell_no_words, texts, words};
+use depot_cli::{Look, Next, PendingTask, Saving, run, tell_no_depot};
+use depot_jobs::{Host, System, tell, tell_no_words, texts, words};
 use devices::{OfRead, OfWrite, Sink};
 use refusals::Refusal;
 use sqlite::Unknown;
 use std::io::{BufReader, BufWriter};
 use std::process::ExitCode;
-use std::{env, fs, io, process};
-use volumes::VOLUME_SIZE;
+use std::{env, io, process};
 
 /// How many bytes of a batch's lines are read, and how many of its answers are held back, at a time.
 const PIECE: usize = 65_536;
@@ -139,72 +136,6 @@ fn words_of(rt: &HostRuntime) -> io::Result<Vec<String>> {
 // What opens files of the system, about which nothing is known.
 fn on_disk(rt: &HostRuntime) -> OnDisk<'_, Unknown> {
     OnDisk { rt, start: Unknown }
-}
-
-// Whether there is a folder at a path.
-fn is_folder(rt: &HostRuntime, path: &str) -> bool {
-    match fs::metadata(rt, path) {
-        Ok(found) => found.is_dir(),
-        Err(_) => false,
-    }
-}
-
-// Makes a folder with the first volume of a depot, and returns the status.
-fn init_folder<O: Sink, E: Sink>(rt: &HostRuntime, name: &str, out: &mut O, err: &mut E) -> u8 {
-    match make_folder(rt, name) {
-        Ok(()) => tell_made(name, out, err),
-        Err(refusal) => tell(err, &refusal),
-    }
-}
-
-// Does a task on the volumes of a folder.
-fn perform_in_folder<O: Sink, E: Sink>(
-    rt: &HostRuntime,
-    pending: &PendingTask<'_>,
-    out: &mut O,
-    err: &mut E,
-) -> u8 {
-    let mut opened = match &pending.task {
-        Task::FromFile(_, _, _) | Task::Migrate => Folder::hold(rt, pending.name),
-        Task::OnUser(_, _) | Task::Export { .. } => Folder::list(rt, pending.name),
-    };
-    let status = carry_on_volumes(rt.alloc(), pending, &mut opened, VOLUME_SIZE, out, err);
-    close_folder(opened);
-    status
-}
-
-// Saves a user's program from the newest volume of a folder. No file is made under the name of that volume or of its
-// log.
-fn save_from_folder<H: Host, O: Sink, E: Sink>(
-    rt: &HostRuntime,
-    saving: Saving<'_>,
-    host: &mut H,
-    out: &mut O,
-    err: &mut E,
-) -> u8 {
-    let folder = match Folder::hold(rt, saving.name) {
-        Ok(folder) => folder,
-        Err(refusal) => return tell(err, &refusal),
-    };
-    let path = match folder.newest_path() {
-        Ok(path) => path,
-        Err(refusal) => return tell(err, &refusal),
-    };
-    let saving = Saving {
-        name: path.as_str(),
-        ..saving
-    };
-    let mut opened = Ok(folder);
-    let status = save_on_volumes(rt.alloc(), saving, &mut opened, host, out, err);
-    close_folder(opened);
-    status
-}
-
-// Closes what is open of a folder.
-fn close_folder(opened: Result<Folder<'_>, Refusal>) {
-    if let Ok(folder) = opened {
-        folder.close();
-    }
 }
 
 // Opens the depot of a task, in a file or a folder, and does the task on it.
