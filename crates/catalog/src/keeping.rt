@@ -61,10 +61,7 @@ pub fn keep<'a>(alloc: Global, listed: Listed<'a>, octets: &[u8]) -> Result<Kept
 /// # Errors
 ///
 /// `AllocError` if memory is refused.
-pub fn keep_again<'a>(
-    kept: &Kept<'_>,
-    listed: Listed<'a>,
-) -> Result<Option<Kept<'a>>, AllocError>
+pub fn keep_again<'a>(kept: &Kept<'_>, listed: Listed<'a>) -> Result<Option<Kept<'a>>, AllocError>
     ensures { IfOk result (λ again. IfSome again (λ it. (filed : Filed)
         → known_as kept.now ≡ known_of filed
         → known_as it ≡ known_of (filed_as listed.entry filed.octets))) }

@@ -74,12 +74,12 @@ row_shares db xs x parts row named digest single are shows has number kind folde
     let (one, at, kept) = first in
     record {
       label = λ i. record {
-          number = (number ∙ are.number) i;
-          kind = (kind ∙ are.kind) i;
-          folder = (ap (λ v. v.items) folder ∙ are.folder) i;
-          name = (ap (λ v. v.items) name ∙ are.name) i;
-          media = (ap (λ v. v.items) media ∙ are.media) i;
-        };
+        number = (number ∙ are.number) i;
+        kind = (kind ∙ are.kind) i;
+        folder = (ap (λ v. v.items) folder ∙ are.folder) i;
+        name = (ap (λ v. v.items) name ∙ are.name) i;
+        media = (ap (λ v. v.items) media ∙ are.media) i;
+      };
       shared = (one, at, single digest one.octets x.octets kept (subst (λ d. HasContent (db contents_tree) d x.octets) (sym (shows ∙ are.digest)) has));
     }
 
