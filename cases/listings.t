@@ -474,6 +474,7 @@ Faults of listings.
       ^
     2> refused 28 Listing at 4196357
     [1]
+
 ## a listing that is as large as may be, and one that is too large
     $ { echo 'version 1 variables 0 HALT'; yes ' ' | head -c 67108837; } > listing
     $ depot assemble listing out

@@ -4,6 +4,7 @@ pub mod Batches
 pub mod Programs
 pub mod Looks
 pub mod Made
+pub mod Obstacles
 -- private: how the code goes; no public contract names these
 pub mod Private
 pub mod Places

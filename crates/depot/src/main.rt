@@ -48,6 +48,9 @@
 //! damaged in it, by the tables that were found in the files, if they held a store. All of them leave the files with
 //! the state that they represented, whatever the close does.
 //!
+//! Each reason not to open a file for a look follows from what the system reported about the file or its log, or from
+//! the file's first bytes. No clause says that all of this is asked.
+//!
 //! ### If the close fails
 //!
 //! The files hold what was answered. If the answer of a task changed nothing, for example a refusal, they can also

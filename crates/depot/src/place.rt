@@ -1,14 +1,16 @@
 // What is at a path, before anything there is opened.
 //
-// No clause can say what the system reports about a file. The functions that draw a conclusion from it have clauses.
-ghost use Rattle.std.specs.Prelude.{◌≡◌, IfErr, IfOk, IfSome, IsTrue, None, Ok, Some};
+// No clause can say what the system reports about a file, or which bytes it gives. The functions that draw a conclusion
+// from it have clauses.
+ghost use Rattle.std.specs.Prelude.{◌≡◌, ◌≢◌, ◌↔◌, Err, IfErr, IfOk, IfSome, IsTrue, None, Ok, Some};
 ghost use Rattle.std.specs.Fs.{metadata_len};
 ghost use Rattle.std.specs.Io.{StartsWith};
 ghost use Rattle.std.specs.IoError.{error_kind};
+ghost use Rattle.depot.specs.Obstacles.{obstacle_of};
 ghost use Rattle.depot.specs.Places.{IsSeenAs, database_head};
 
 use depot_cli::NoDepot;
-use std::alloc::AllocError;
+use std::alloc::{AllocError, Global};
 use std::fs::{self, File, Metadata, OpenOptions};
 use std::io::{self, ErrorKind, Read};
 use std::os::unix::fs::MetadataExt;
@@ -28,6 +30,8 @@ pub enum Obstacle {
 }
 
 impl From<io::Error> for Obstacle {
+    ghost from_gives = { λ fault why. why ≡ obstacle_of (error_kind fault) };
+
     fn from(fault: io::Error) -> Obstacle {
         match fault.kind() {
             ErrorKind::OutOfMemory => Obstacle::Memory,
@@ -68,23 +72,21 @@ pub fn look_at(rt: &HostRuntime, path: &str) -> Result<Option<u64>, Obstacle> {
         return Err(Obstacle::NoDepot(why));
     }
     let mut file = OpenOptions::new().read(true).write(true).open(rt, path)?;
-    if found.len() != 0 && !begins_as_database(&mut file)? {
+    if found.len() != 0 && !begins_as_database(rt.alloc(), &mut file)? {
         return Err(Obstacle::NoDepot(NoDepot::Damaged));
     }
     Ok(log)
 }
 
 // Whether a file begins as every database does. No log is made next to a file that doesn't.
-fn begins_as_database<R: Read>(file: &mut R) -> io::Result<bool>
-    ensures { IfOk result (λ begins. IsTrue begins
-        → IfSome (R.remaining file.old) (λ left. StartsWith left database_head)) }
+fn begins_as_database<R: Read + Drop>(alloc: Global, file: R) -> io::Result<bool>
+    ensures { IfOk result (λ begins. IfSome (R.remaining file)
+        (λ left. IsTrue begins ↔ StartsWith left database_head)) }
 {
-    let mut head = [0; 16];
-    match file.read_exact(&mut head) {
-        Ok(()) => Ok(head == *DATABASE_HEAD),
-        Err(fault) if fault.kind() == ErrorKind::UnexpectedEof => Ok(false),
-        Err(fault) => Err(fault),
-    }
+    let mut head = Vec::new(alloc);
+    file.take(DATABASE_HEAD.len() as u64)
+        .read_to_end(&mut head)?;
+    Ok(head.as_slice() == DATABASE_HEAD.as_slice())
 }
 
 // Why nothing has a name: there is no such file, or no such folder.
@@ -113,8 +115,9 @@ fn octets_of_log(rt: &HostRuntime, path: &str) -> Result<Option<u64>, Obstacle> 
 // The size of a log, by what was found under its name. There is none only if nothing was found there.
 fn size_of_log(found: io::Result<Metadata>) -> Result<Option<u64>, Obstacle>
     ensures size { IfOk found (λ log. result ≡ Ok (Some (metadata_len log))) }
-    ensures none { IfErr found (λ fault. IfOk result (λ size. (size ≡ None)
-        × (error_kind fault ≡ ErrorKind.NotFound))) }
+    ensures none { IfErr found (λ fault. error_kind fault ≡ ErrorKind.NotFound → result ≡ Ok None) }
+    ensures refused { IfErr found (λ fault. error_kind fault ≢ ErrorKind.NotFound
+        → result ≡ Err (obstacle_of (error_kind fault))) }
 {
     match found {
         Ok(found) => Ok(Some(found.len())),

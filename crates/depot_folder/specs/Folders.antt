@@ -1,4 +1,4 @@
--- Private: what a contract knows of volumes in a folder of the system.
+-- What a contract knows of volumes in a folder of the system.
 use Rattle.std.specs.Prelude.{ℕ}
 use Rattle.volumes.specs.Holding.{Holding, IsFailure}
 

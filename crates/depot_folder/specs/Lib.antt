@@ -1,3 +1,2 @@
 pub mod Names
--- private: how the code goes; no public contract names these
 pub mod Folders
