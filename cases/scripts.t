@@ -49,6 +49,11 @@ Only if: command -v nm # there is no nm
     $ "$TOP/cases/memory_refusals"
     71 places, each with its reason
 
+## how often commands ask for memory
+Only if: command -v cc # there is no C compiler
+    $ "$TOP/cases/allocations" depot
+    22 commands, 0 ask for another number of allocations
+
 ## deliver, behind a mail server
 Only if: command -v flock # there is no flock
     $ "$TOP/contrib/test_deliver" depot > report || cat report
