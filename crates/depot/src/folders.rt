@@ -6,7 +6,7 @@
 use crate::making::tell_made;
 use depot_cli::{PendingTask, Saving, carry_on_volumes, save_on_volumes};
 use depot_folder::{Folder, make_folder, number_of};
-use depot_jobs::{Host, Task, tell};
+use depot_jobs::{Host, Task, is_beside, tell};
 use devices::Sink;
 use refusals::Refusal;
 use std::fs;
@@ -64,18 +64,19 @@ fn is_volume_name(path: &str) -> bool {
         Some((_, name)) => name,
         None => path,
     };
-    for ending in ["-wal", "-shm", "-journal"] {
-        if let Some(volume) = name.strip_suffix(ending) {
-            return number_of(volume).is_some();
-        }
+    if number_of(name).is_some() {
+        return true;
     }
-    number_of(name).is_some()
+    match name.rsplit_once('-') {
+        Some((volume, _)) => number_of(volume).is_some() && is_beside(volume, name),
+        None => false,
+    }
 }
 
 // The path of the folder of a file.
 fn parent_of(path: &str) -> &str {
     match path.rsplit_once('/') {
-        Some(("", _)) => "/",
+        Some((parent, _)) if parent.is_empty() => "/",
         Some((parent, _)) => parent,
         None => ".",
     }
