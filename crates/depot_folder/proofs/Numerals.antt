@@ -3,7 +3,6 @@ use Rattle.std.proofs.Common.{◌≡◌, ◌≢◌, ◌∙◌, ◌+◌, ◌-◌,
 use Rattle.std.specs.Prelude.{codes}
 use Rattle.std.specs.Char.{digit_value}
 use Rattle.std.specs.Fmt.{decimal, format_spec, padded_integral, styled_decimal}
-use Rattle.std.specs.declared.fmt.formatter.FormatSpec.{FormatSpec}
 use Rattle.std.specs.Str.Pattern.{FindsTextSuffix, StripsSuffix}
 use Rattle.std.specs.Str.Parse.{AllDigits, IsNumeral, digits_value, digits_value_after, without_leading_plus}
 use Rattle.std.proofs.lemmas.Bool.{ne_eqb}
@@ -41,13 +40,13 @@ named number small =
       writes = zeros.1 ∙ numeral.1;
     }
 
-pub path_named : (folder path : List ℕ) (number : ℕ) (spec : FormatSpec) → spec ≡ format_spec 32 0 4 8 (2 ^ 64 - 1)
+pub path_named : (folder path : List ℕ) (number : ℕ) (spec : _) → spec ≡ format_spec 32 0 4 8 (2 ^ 64 - 1)
     → path ≡ folder ++ (codes "/" ++ (styled_decimal spec number ++ codes ".depot")) → number < 10 ^ 8 → IsVolumePath folder number path
 path_named folder path number spec laid is small =
     let name = padded_integral (format_spec 32 0 4 8 (2 ^ 64 - 1)) false [] (decimal number) ++ codes ".depot" in (
       name,
       named number small,
-      is ∙ ap (λ (s : FormatSpec). folder ++ (codes "/" ++ (styled_decimal s number ++ codes ".depot"))) laid ∙ sym (append_assoc folder (codes "/") name),
+      is ∙ ap (λ s. folder ++ (codes "/" ++ (styled_decimal s number ++ codes ".depot"))) laid ∙ sym (append_assoc folder (codes "/") name),
     )
 
 -- ---- from a name to its number
