@@ -22,11 +22,7 @@ impl Printable for MadeFolder<'_> {
         let name = self.name.as_bytes();
         print(
             page,
-            &[
-                Piece::Text("made "),
-                Piece::Quoted(name),
-                Piece::Text("\n"),
-            ],
+            &[Piece::Text("made "), Piece::Quoted(name), Piece::Text("\n")],
         );
     }
 }
