@@ -2,7 +2,7 @@
 use Rattle.std.proofs.Common.{◌≡◌, ◌≢◌, ◌∙◌, ◌+◌, ◌-◌, ◌*◌, ◌^◌, ◌<◌, ◌≤◌, Bool, ℕ, zero, suc, List, [], ◌∷◌, ◌++◌, None, false, append_assoc, append-nil, ap, arith, cond, drop, get_or, length, refl, replicate, subst, sym}
 use Rattle.std.specs.Prelude.{codes}
 use Rattle.std.specs.Char.{digit_value}
-use Rattle.std.specs.Fmt.{decimal, format_spec, padded_integral, styled_decimal}
+use Rattle.std.specs.Fmt.{char_count, decimal, format_spec, padded_integral, styled_decimal}
 use Rattle.std.specs.Str.Pattern.{FindsTextSuffix, StripsSuffix}
 use Rattle.std.specs.Str.Parse.{AllDigits, IsNumeral, digits_value, digits_value_after, without_leading_plus}
 use Rattle.std.proofs.lemmas.Bool.{ne_eqb}
@@ -21,8 +21,11 @@ zeros_first (suc k) ds all = let rest = zeros_first k ds all in ((omega arith, r
 
 -- what `{:08}` writes of a number
 pub padded : (number : ℕ) → padded_integral (format_spec 32 0 4 8 (2 ^ 64 - 1)) false [] (decimal number) ≡ replicate (8 - length (decimal number)) 48 ++ decimal number
-unfolding padded_integral
-padded number = ap (λ (ds : List ℕ). replicate (8 - length (decimal number)) 48 ++ ds) (append-nil (decimal number))
+unfolding padded_integral char_count
+padded number =
+    let ds = decimal number in
+    let short : 8 - length ds - 0 - 0 ≡ 8 - length ds = omega arith in
+    ap (λ (k : ℕ). replicate k 48 ++ (ds ++ [])) short ∙ ap (λ (text : List ℕ). replicate (8 - length ds) 48 ++ text) (append-nil ds)
 
 pub named : (number : ℕ) → number < 10 ^ 8 → IsVolumeName number (padded_integral (format_spec 32 0 4 8 (2 ^ 64 - 1)) false [] (decimal number) ++ codes ".depot")
 named number small =
