@@ -31,14 +31,15 @@ pub named : (number : ℕ) → number < 10 ^ 8 → IsVolumeName number (padded_i
 named number small =
     let ds = decimal number in
     let numeral = decimal_is_IsNumeral number (omega (arith, small)) in
+    let front : List ℕ = replicate (8 - length ds) 48 in
     let zeros = zeros_first (8 - length ds) ds numeral.0.1 in
     let short : length ds ≤ 8 = length-decimal-le 8 number (omega arith) small (omega (arith, small)) in
-    let long : length (replicate (8 - length ds) 48 ++ ds) ≡ length (replicate (8 - length ds) 48) + length ds = length-append (replicate (8 - length ds) 48) ds in
-    let front : length (replicate (8 - length ds) 48) ≡ 8 - length ds = length-replicate (8 - length ds) 48 in
+    let long : length (front ++ ds) ≡ length front + length ds = length-append front ds in
+    let filled : length front ≡ 8 - length ds = length-replicate (8 - length ds) 48 in
     record {
-      digits = replicate (8 - length ds) 48 ++ ds;
+      digits = front ++ ds;
       is = ap (λ (text : List ℕ). text ++ codes ".depot") (padded number);
-      eight = omega (arith, long, front, short);
+      eight = omega (arith, long, filled, short);
       decimal = zeros.0;
       writes = zeros.1 ∙ numeral.1;
     }
