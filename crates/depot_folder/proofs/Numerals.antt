@@ -2,8 +2,7 @@
 use Rattle.std.proofs.Common.{◌≡◌, ◌≢◌, ◌∙◌, ◌+◌, ◌-◌, ◌*◌, ◌^◌, ◌<◌, ◌≤◌, Bool, ℕ, zero, suc, List, [], ◌∷◌, ◌++◌, None, false, append_assoc, append-nil, ap, arith, cond, drop, get_or, length, refl, replicate, subst, sym}
 use Rattle.std.specs.Prelude.{codes}
 use Rattle.std.specs.Char.{digit_value}
-use Rattle.std.specs.Fmt.{decimal, format_spec, padded_integral, styled_decimal}
-use Rattle.std.specs.declared.fmt.formatter.FormatSpec.{FormatSpec}
+use Rattle.std.specs.Fmt.{char_count, decimal, format_spec, padded_integral, styled_decimal}
 use Rattle.std.specs.Str.Pattern.{FindsTextSuffix, StripsSuffix}
 use Rattle.std.specs.Str.Parse.{AllDigits, IsNumeral, digits_value, digits_value_after, without_leading_plus}
 use Rattle.std.proofs.lemmas.Bool.{ne_eqb}
@@ -22,32 +21,36 @@ zeros_first (suc k) ds all = let rest = zeros_first k ds all in ((omega arith, r
 
 -- what `{:08}` writes of a number
 pub padded : (number : ℕ) → padded_integral (format_spec 32 0 4 8 (2 ^ 64 - 1)) false [] (decimal number) ≡ replicate (8 - length (decimal number)) 48 ++ decimal number
-unfolding padded_integral
-padded number = ap (λ (ds : List ℕ). replicate (8 - length (decimal number)) 48 ++ ds) (append-nil (decimal number))
+unfolding padded_integral char_count
+padded number =
+    let ds = decimal number in
+    let short : 8 - length ds - 0 - 0 ≡ 8 - length ds = omega arith in
+    ap (λ (k : ℕ). replicate k 48 ++ (ds ++ [])) short ∙ ap (λ (text : List ℕ). replicate (8 - length ds) 48 ++ text) (append-nil ds)
 
 pub named : (number : ℕ) → number < 10 ^ 8 → IsVolumeName number (padded_integral (format_spec 32 0 4 8 (2 ^ 64 - 1)) false [] (decimal number) ++ codes ".depot")
 named number small =
     let ds = decimal number in
     let numeral = decimal_is_IsNumeral number (omega (arith, small)) in
+    let front : List ℕ = replicate (8 - length ds) 48 in
     let zeros = zeros_first (8 - length ds) ds numeral.0.1 in
     let short : length ds ≤ 8 = length-decimal-le 8 number (omega arith) small (omega (arith, small)) in
-    let long : length (replicate (8 - length ds) 48 ++ ds) ≡ length (replicate (8 - length ds) 48) + length ds = length-append (replicate (8 - length ds) 48) ds in
-    let front : length (replicate (8 - length ds) 48) ≡ 8 - length ds = length-replicate (8 - length ds) 48 in
+    let long : length (front ++ ds) ≡ length front + length ds = length-append front ds in
+    let filled : length front ≡ 8 - length ds = length-replicate (8 - length ds) 48 in
     record {
-      digits = replicate (8 - length ds) 48 ++ ds;
+      digits = front ++ ds;
       is = ap (λ (text : List ℕ). text ++ codes ".depot") (padded number);
-      eight = omega (arith, long, front, short);
+      eight = omega (arith, long, filled, short);
       decimal = zeros.0;
       writes = zeros.1 ∙ numeral.1;
     }
 
-pub path_named : (folder path : List ℕ) (number : ℕ) (spec : FormatSpec) → spec ≡ format_spec 32 0 4 8 (2 ^ 64 - 1)
+pub path_named : (folder path : List ℕ) (number : ℕ) (spec : _) → spec ≡ format_spec 32 0 4 8 (2 ^ 64 - 1)
     → path ≡ folder ++ (codes "/" ++ (styled_decimal spec number ++ codes ".depot")) → number < 10 ^ 8 → IsVolumePath folder number path
 path_named folder path number spec laid is small =
     let name = padded_integral (format_spec 32 0 4 8 (2 ^ 64 - 1)) false [] (decimal number) ++ codes ".depot" in (
       name,
       named number small,
-      is ∙ ap (λ (s : FormatSpec). folder ++ (codes "/" ++ (styled_decimal s number ++ codes ".depot"))) laid ∙ sym (append_assoc folder (codes "/") name),
+      is ∙ ap (λ s. folder ++ (codes "/" ++ (styled_decimal s number ++ codes ".depot"))) laid ∙ sym (append_assoc folder (codes "/") name),
     )
 
 -- ---- from a name to its number

@@ -8,4 +8,4 @@ returns-in-Ok-clause-found c =
     let eight : length digits ≡ 8 = search rules in
     let other : get_or digits 0 0 ≡ 43 → ⊥ = search rules in
     let value = c.in-Ok.ensures.value in
-    read c.args.name.now digits (ending_off c.args.name.now digits c.in-Some.ensures.cases) (bare digits other) eight c.in-Ok.number value.0.0 value.1
+    read c.args.name.now digits (ending_off c.args.name.now digits c.in-Some.ensures.cases) (bare digits other) eight c.in-Ok.number value.0.0.0 value.0.1
