@@ -279,3 +279,94 @@ Only if: python3 -c 'import sqlite3' # there is no sqlite3 for python3
     $ DEPOT=./other "$TOP/contrib/into_volumes" mail.depot new
     2 entries of 1 user in 1 volume
     $ rm -r new other before
+
+## the lines of docs/OPERATING.md for volumes: backup, restore, retention and a mailbox that is converted
+Only if: command -v flock && python3 -c 'import sqlite3' # there is no flock or no sqlite3 for python3
+    $ sed -n '/^## An archive in volumes/,$p' "$TOP/docs/OPERATING.md" | tr -s '\n ' ' ' | grep -o -e '`flock archive.lock [^`]*`' -e '`into_volumes ann[^`]*`' | tr -d '`' | sed 's,/srv/backup,backup,; s,/srv/old,../../old,' > lines
+    $ wc -l < lines; for n in 1 2 3 4; do sed -n ${n}p lines > line$n; done
+    4
+    $ depot init archive && mkdir -p backup/archive && echo 'keep;' > script && depot script archive ann script
+    made "archive"
+    stored
+    $ for n in 2 3; do depot deliver archive ann examples/ticket.eml; : > archive/0000000$n.depot; done; depot deliver archive ann examples/newsletter.eml
+    1 message "INBOX"
+    2 message "INBOX"
+    3 message "INBOX"
+
+A copy, and a second one of what is new.
+
+    $ cat line2 && sh line2 && diff -r archive backup/archive
+    flock archive.lock cp -pu archive/* backup/archive/
+    $ depot deliver archive ann examples/invoice.eml; cp -pR backup before; sh line2 && diff -r archive backup/archive; diff -rq before/archive backup/archive | grep -v wal
+    4 message "INBOX"
+    Files before/archive/00000003.depot and backup/archive/00000003.depot differ
+    $ depot list backup/archive ann | cut -d ' ' -f 1,6
+    1 3678
+    2 3678
+    3 66866
+    4 19165
+
+A volume in the middle is put back from the copy. Then all are.
+
+    $ echo spoilt > archive/00000001.depot; depot list archive ann
+    2> refused 43 Database
+    [1]
+    $ cp -p backup/archive/00000001.depot* archive && depot list archive ann | wc -l
+    4
+    $ echo spoilt > archive/00000003.depot; cat line3; sh line3; diff -r archive backup/archive && ls broken; depot deliver archive ann examples/ticket.eml
+    flock archive.lock sh -c 'mv archive broken && cp -pR backup/archive .'
+    00000001.depot
+    00000001.depot-wal
+    00000002.depot
+    00000002.depot-wal
+    00000003.depot
+    00000003.depot-wal
+    5 message "INBOX"
+
+The oldest volume goes.
+
+    $ cat line4; sh line4; depot list archive ann | cut -d ' ' -f 1,6; depot export archive ann 1 raw
+    flock archive.lock rm archive/00000001.depot*
+    2 3678
+    3 66866
+    4 19165
+    5 3678
+    2> refused 40 NoSuchEntry
+    [1]
+    $ "$TOP/contrib/to_maildir" archive ann Mail; depot deliver archive ann examples/ticket.eml
+    2 Mail/new/2.depot-ann
+    3 Mail/new/3.depot-ann
+    4 Mail/new/4.depot-ann
+    5 Mail/new/5.depot-ann
+    6 message "INBOX"
+
+A mailbox with a journal of ids becomes a folder, and takes mail without --once.
+
+    $ mkdir -p box/example.org && DEPOT=depot "$TOP/contrib/deliver" --new box ann@example.org && DEPOT=depot "$TOP/contrib/deliver" --once 1 box ann@example.org < examples/ticket.eml
+    box/example.org/ann.depot
+    1 message "INBOX"
+    $ cat line1; mkdir old; cd box/example.org && PATH=$TOP/contrib:$PATH sh ../../line1; ls . ../../old
+    into_volumes ann.depot new && mv ann.depot ann.depot-* ann.depot.once ../../old; mv new ann.depot
+    1 entry of 1 user in 1 volume
+    .:
+    ann.depot
+    ann.depot.lock
+    
+    ../../old:
+    ann.depot
+    ann.depot-wal
+    ann.depot.once
+    $ DEPOT=depot "$TOP/contrib/deliver" --once 2 box ann@example.org < examples/invoice.eml
+    2> deliver: --once is for files, and the mailbox box/example.org/ann.depot is a folder of volumes or is to be one: leave --once out
+    [75]
+    $ DEPOT=depot "$TOP/contrib/deliver" box ann@example.org < examples/invoice.eml; depot list box/example.org/ann.depot ann | cut -d ' ' -f 1,6
+    2 message "INBOX"
+    1 3678
+    2 19165
+    $ echo ann@example.org | DEPOT=depot "$TOP/contrib/each_mailbox" box make; DEPOT=depot "$TOP/contrib/each_mailbox" box copy copies; echo $?
+    box/example.org/ann.depot
+    1 done, 0 failed
+    0 done, 1 failed
+    65
+    2> each_mailbox: box/example.org/ann.depot: the mailbox is a folder of volumes, which each_mailbox doesn't take
+    $ rm -r archive backup before broken box copies old Mail*
