@@ -269,7 +269,7 @@ The batch ends after so many lines, and the script is killed then.
     2> to_maildir: ../ann is no user's name: it has 1 to 64 of a to z, 0 to 9, dot, underscore and hyphen
     2> to_maildir: a\x0ab\x1b[1m\xff is no user's name: it has 1 to 64 of a to z, 0 to 9, dot, underscore and hyphen
     2> to_maildir: there is no file a\x0ab\x1b[1m\xff
-    2> to_maildir: folder is no file
+    2> to_maildir: the folder folder has no volume
     2> to_maildir: led is no file
     $ ./t to_maildir mail.depot ann Full; ./t to_maildir mail.depot ann led; ./t to_maildir mail.depot ann Full/x
     73
