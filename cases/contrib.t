@@ -269,7 +269,7 @@ The batch ends after so many lines, and the script is killed then.
     2> to_maildir: ../ann is no user's name: it has 1 to 64 of a to z, 0 to 9, dot, underscore and hyphen
     2> to_maildir: a\x0ab\x1b[1m\xff is no user's name: it has 1 to 64 of a to z, 0 to 9, dot, underscore and hyphen
     2> to_maildir: there is no file a\x0ab\x1b[1m\xff
-    2> to_maildir: folder is no file
+    2> to_maildir: the folder folder has no volume
     2> to_maildir: led is no file
     $ ./t to_maildir mail.depot ann Full; ./t to_maildir mail.depot ann led; ./t to_maildir mail.depot ann Full/x
     73
@@ -910,8 +910,115 @@ Only if: command -v flock && command -v sqlite3 && command -v sha256sum # there 
     1
     $ rm -r in boxes shard.* sums
 
+## a folder of volumes as a Maildir
+    $ printf 'require ["fileinto", "vnd.depot", "foreverypart"]; foreverypart { store "Parts"; } fileinto "A/b"; keep;' > script
+    $ depot init archive
+    made "archive"
+    $ depot script archive ann script && depot script mail.depot ann script
+    stored
+    stored
+    $ for n in 1 2 3 4 5 6 7 8; do printf 'Subject: %s\nDate: Fri, 1 Mar 2019 10:00:00 +0000\n\n%s\n' $n $n > mail; for depot in archive mail.depot; do depot deliver $depot ann mail; done; : > archive/0000000$((n + 1)).depot; done > said
+    $ cat > counting <<'END'
+    > #!/bin/sh
+    > [ "$1" != batch ] || echo "$1" >> batches
+    > exec depot "$@"
+    > END
+    $ chmod +x counting && "$TOP/contrib/to_maildir" mail.depot ann Mail > said
+    $ DEPOT=./counting "$TOP/contrib/to_maildir" archive ann New | sed 's/ New/ Mail/' | cmp - said; wc -l < said; wc -l < batches
+    24
+    8
+    $ diff -r Mail New && diff -r Mail-parts New-parts && find New -name '[0-9]*.depot-ann' -newermt 2019-03-02 && cat New/depot-ann
+    24 51
+
+The second run looks at the volume of the last entry, and then at those with new entries.
+
+    $ rm batches && DEPOT=./counting "$TOP/contrib/to_maildir" archive/ ann New; wc -l < batches
+    1
+    $ for n in 0 1; do depot deliver archive ann mail; : > archive/0000001$n.depot; done > said; ls archive/*.depot | tail -n 1
+    archive/00000011.depot
+    $ rm batches && DEPOT=./counting "$TOP/contrib/to_maildir" archive ann New; wc -l < batches
+    25 New-parts/Parts/25-part
+    26 New/.A.b/new/26.depot-ann
+    27 New/new/27.depot-ann
+    28 New-parts/Parts/28-part
+    29 New/.A.b/new/29.depot-ann
+    30 New/new/30.depot-ann
+    3
+
+A user without mail for many volumes costs no more, and neither does one without any.
+
+    $ for n in 2 3; do depot deliver archive bob mail; : > archive/0000001$n.depot; done > said
+    $ rm batches && DEPOT=./counting "$TOP/contrib/to_maildir" archive ann New; wc -l < batches
+    1
+    $ rm batches && DEPOT=./counting "$TOP/contrib/to_maildir" archive eve Eve; [ ! -e Eve ] && [ ! -e batches ]
+    $ "$TOP/contrib/to_maildir" archive bob Bob
+    1 Bob/new/1.depot-bob
+    2 Bob/new/2.depot-bob
+
+A content that was altered in an old volume, and one in a new one.
+
+    $ depot deliver archive ann mail > said; : > archive/00000014.depot; sed -i 's/Subject: 2/Subject: X/' archive/00000002.depot; printf 'Subject: new\n\n' > mail; depot deliver archive ann mail > said; sed -i 's/Subject: new/Subject: old/' archive/00000014.depot
+    $ "$TOP/contrib/to_maildir" archive ann Other > said; echo $?; wc -l < said; cat Other/depot-ann
+    65
+    32
+    36 14
+    5
+    6
+    35
+    36
+    2> to_maildir: the content of entry 5 of ann was altered on the disk: restore it from a backup
+    2> to_maildir: the content of entry 6 of ann was altered on the disk: restore it from a backup
+    2> to_maildir: the content of entry 35 of ann was altered on the disk: restore it from a backup
+    2> to_maildir: the content of entry 36 of ann was altered on the disk: restore it from a backup
+    $ "$TOP/contrib/to_maildir" archive ann Other; echo $?
+    65
+    2> to_maildir: the content of entry 5 of ann was altered on the disk: restore it from a backup
+    2> to_maildir: the content of entry 6 of ann was altered on the disk: restore it from a backup
+    2> to_maildir: the content of entry 35 of ann was altered on the disk: restore it from a backup
+    2> to_maildir: the content of entry 36 of ann was altered on the disk: restore it from a backup
+    $ sed -i 's/Subject: X/Subject: 2/' archive/00000002.depot; "$TOP/contrib/to_maildir" archive ann Other; echo $?; cat Other/depot-ann
+    5 Other/.A.b/new/5.depot-ann
+    6 Other/new/6.depot-ann
+    65
+    36 14
+    35
+    36
+    2> to_maildir: the content of entry 35 of ann was altered on the disk: restore it from a backup
+    2> to_maildir: the content of entry 36 of ann was altered on the disk: restore it from a backup
+    $ depot remove archive ann 35; depot remove archive ann 36; "$TOP/contrib/to_maildir" archive ann Other; echo $?
+    removed 35
+    removed 36
+    0
+
+Another depot, or an older copy, and a folder without its oldest volumes.
+
+    $ cp -R archive older && rm older/00000014.depot*; "$TOP/contrib/to_maildir" older ann Other; echo $?
+    65
+    2> to_maildir: Other has entries up to 36 of another depot or of a newer copy: give each depot a Maildir of its own
+    $ rm archive/0000000?.depot*; depot deliver archive ann mail > said; "$TOP/contrib/to_maildir" archive ann Other; "$TOP/contrib/to_maildir" archive ann Last | wc -l
+    37 Other-parts/Parts/37-part
+    38 Other/.A.b/new/38.depot-ann
+    39 Other/new/39.depot-ann
+    10
+
+The lock is waited for. A folder that isn't a depot is refused.
+
+    $ flock archive.lock sh -c ': > locked; sleep 2; depot deliver archive ann mail' > said & until [ -e locked ]; do sleep 0.1; done; "$TOP/contrib/to_maildir" archive ann Other | wc -l; wait
+    3
+    $ mv archive/00000012.depot kept; "$TOP/contrib/to_maildir" archive ann Other; echo $?; ln -s ../kept archive/00000012.depot; "$TOP/contrib/to_maildir" archive ann Other; echo $?
+    65
+    65
+    2> to_maildir: the folder archive has no volume 00000012.depot, which is before 00000014.depot
+    2> to_maildir: the volume archive/00000012.depot is no regular file, or has a second name
+    $ mkdir none; "$TOP/contrib/to_maildir" none ann None; echo $?; echo other > none/00000001.depot; "$TOP/contrib/to_maildir" none ann None; echo $?; [ ! -e None ]
+    66
+    65
+    2> to_maildir: the folder none has no volume
+    2> to_maildir: none/00000001.depot: no depot: it is no database, or it is damaged
+    $ rm -r archive older none Mail* New* Other* Last* Bob* counting kept locked
+
 ## the tools without words say how they are called
-    $ for tool in deliver hold ask each_mailbox test_deliver test_hold to_maildir refilter refile scrub; do "$TOP/contrib/$tool" > /dev/null 2> said; echo "$tool $?"; grep -c . said > lines; [ -s lines ] || echo silent; done
+    $ for tool in deliver hold ask each_mailbox test_deliver test_hold to_maildir refilter refile scrub into_volumes; do "$TOP/contrib/$tool" > /dev/null 2> said; echo "$tool $?"; grep -c . said > lines; [ -s lines ] || echo silent; done
     deliver 64
     hold 64
     ask 64
@@ -922,3 +1029,4 @@ Only if: command -v flock && command -v sqlite3 && command -v sha256sum # there 
     refilter 64
     refile 64
     scrub 64
+    into_volumes 64

@@ -26,6 +26,7 @@ Only if: command -v dpkg-deb # there is no dpkg-deb
     -rwxr-xr-x root/root 2031-05-06 ./usr/bin/depot-each-mailbox
     -rwxr-xr-x root/root 2031-05-06 ./usr/bin/depot-expect
     -rwxr-xr-x root/root 2031-05-06 ./usr/bin/depot-hold
+    -rwxr-xr-x root/root 2031-05-06 ./usr/bin/depot-into-volumes
     -rwxr-xr-x root/root 2031-05-06 ./usr/bin/depot-refile
     -rwxr-xr-x root/root 2031-05-06 ./usr/bin/depot-refilter
     -rwxr-xr-x root/root 2031-05-06 ./usr/bin/depot-scrub
@@ -39,6 +40,7 @@ Only if: command -v dpkg-deb # there is no dpkg-deb
     -rwxr-xr-x root/root 2031-05-06 ./usr/lib/depot/each_mailbox
     -rwxr-xr-x root/root 2031-05-06 ./usr/lib/depot/expect
     -rwxr-xr-x root/root 2031-05-06 ./usr/lib/depot/hold
+    -rwxr-xr-x root/root 2031-05-06 ./usr/lib/depot/into_volumes
     -rwxr-xr-x root/root 2031-05-06 ./usr/lib/depot/refile
     -rwxr-xr-x root/root 2031-05-06 ./usr/lib/depot/refilter
     -rwxr-xr-x root/root 2031-05-06 ./usr/lib/depot/scrub
@@ -83,6 +85,7 @@ Only if: command -v dpkg-deb # there is no dpkg-deb
     -rw-r--r-- root/root 2031-05-06 ./usr/share/man/man1/depot-each-mailbox.1.gz
     -rw-r--r-- root/root 2031-05-06 ./usr/share/man/man1/depot-expect.1.gz
     -rw-r--r-- root/root 2031-05-06 ./usr/share/man/man1/depot-hold.1.gz
+    -rw-r--r-- root/root 2031-05-06 ./usr/share/man/man1/depot-into-volumes.1.gz
     -rw-r--r-- root/root 2031-05-06 ./usr/share/man/man1/depot-refile.1.gz
     -rw-r--r-- root/root 2031-05-06 ./usr/share/man/man1/depot-refilter.1.gz
     -rw-r--r-- root/root 2031-05-06 ./usr/share/man/man1/depot-scrub.1.gz
@@ -136,6 +139,8 @@ Each script but the tests has a name on the PATH, and a manual page of what stan
     depot\-expect "2031-05-06"
      NAME SYNOPSIS DESCRIPTION SEE
     depot\-hold "2031-05-06"
+     NAME SYNOPSIS DESCRIPTION SEE
+    depot\-into\-volumes "2031-05-06"
      NAME SYNOPSIS DESCRIPTION SEE
     depot\-refile "2031-05-06"
      NAME SYNOPSIS DESCRIPTION SEE

@@ -5,16 +5,21 @@ what it refuses is a status.
 """
 
 import contextlib
+import functools
+import importlib.machinery
+import importlib.util
 import os
 import re
 import shutil
 import subprocess
 import sys
 import tempfile
+import time
 
 PROGRAM = os.environ.get("DEPOT", "depot")
 ASK = os.path.join(os.path.dirname(os.path.realpath(__file__)), "ask")
 USER = re.compile(r"[a-z0-9._-]{1,64}")
+VOLUME = re.compile(r"([0-9]{8})\.depot")
 QUOTED = rb'"(?:[^"\\]|\\[0-9a-f]{2})*"'
 # The statuses for refusals of the program, and for no answer; any other refusal is of what was given.
 STATUS = {None: os.EX_TEMPFAIL, "1": os.EX_TEMPFAIL, "44": os.EX_NOUSER, "45": os.EX_IOERR, "46": os.EX_NOINPUT}
@@ -253,18 +258,86 @@ def is_readable(path):
 
 
 @contextlib.contextmanager
-def copied(depot, name):
-    """A folder, and in it a copy of a depot, whose lock is held only while that is made."""
+def copied(depot, name, folder=None):
+    """A folder, and in it a copy of a depot, or of a volume of that folder, whose lock is held only while that is made."""
     want_file(depot)
     room = tempfile.mkdtemp(prefix=name + ".")
     try:
         copy = os.path.join(room, "copy")
-        done = subprocess.run([ASK, "--", depot, "copy", copy], stdin=subprocess.DEVNULL, capture_output=True, check=False)
-        if done.returncode:
-            why = done.stderr.decode(errors="replace").strip().removeprefix("ask: ")
-            status = done.returncode if done.returncode in range(os.EX_USAGE, os.EX_CONFIG + 1) else os.EX_TEMPFAIL
-            raise Failed(status, f"{depot} can't be copied: {why or done.returncode}")
+        if folder is None:
+            copy_by_ask(depot, copy)
+        else:
+            with locked(folder):
+                copy_volume(depot, copy)
         yield room, copy
     finally:
         # what was written counts, also if this can't be removed
         shutil.rmtree(room, ignore_errors=True)
+
+
+def copy_by_ask(depot, copy):
+    done = subprocess.run([ASK, "--", depot, "copy", copy], stdin=subprocess.DEVNULL, capture_output=True, check=False)
+    if done.returncode:
+        why = done.stderr.decode(errors="replace").strip().removeprefix("ask: ")
+        status = done.returncode if done.returncode in range(os.EX_USAGE, os.EX_CONFIG + 1) else os.EX_TEMPFAIL
+        raise Failed(status, f"{depot} can't be copied: {why or done.returncode}")
+
+
+@functools.cache
+def ask_itself():
+    """The script `ask` as a module."""
+    loader = importlib.machinery.SourceFileLoader("ask", ASK)
+    module = importlib.util.module_from_spec(importlib.util.spec_from_loader("ask", loader))
+    loader.exec_module(module)
+    return module
+
+
+def copy_volume(volume, copy):
+    try:
+        ask_itself().copy(volume, copy)
+    except ask_itself().Failed as fault:
+        raise Failed(fault.status, f"{volume} can't be copied: {fault}") from fault
+
+
+@contextlib.contextmanager
+def locked(folder):
+    """Has the lock of a folder of volumes, which `deliver` takes as well. `hold` and `ask` serve no folder."""
+    ask, name = ask_itself(), folder.rstrip("/") + ".lock"
+    end = time.monotonic() + ask.PATIENCE
+    while (lock := ask.try_lock(name, folder)) is None:
+        if time.monotonic() > end:
+            raise Failed(os.EX_TEMPFAIL, f"another process keeps the lock {name}")
+        time.sleep(0.05)
+    try:
+        yield
+    finally:
+        os.close(lock)
+
+
+def volumes_of(folder):
+    """The paths of the volumes in a folder, the oldest first. A newest one that was only begun isn't among them: it has no user,
+    though the one before it has some."""
+    names = sorted(name for name in os.listdir(folder) if VOLUME.fullmatch(name))
+    if not names:
+        raise Failed(os.EX_NOINPUT, f"the folder {folder} has no volume")
+    for number, name in enumerate(names, int(names[0][:8])):
+        if int(name[:8]) != number:
+            raise Failed(os.EX_DATAERR, f"the folder {folder} has no volume {number:08}.depot, which is before {names[-1]}")
+    paths = [os.path.join(folder, name) for name in names]
+    for path in paths:
+        if os.path.islink(path) or not os.path.isfile(path) or os.stat(path).st_nlink != 1:
+            raise Failed(os.EX_DATAERR, f"the volume {path} is no regular file, or has a second name")
+    if len(paths) > 1 and not lasts_in(paths[-1], folder):
+        paths.pop()
+    return paths
+
+
+def lasts_in(volume, folder):
+    """The last number of each user in a volume, by `inspect`."""
+    with locked(folder):
+        done = inspected(volume)
+    said = done.stdout.decode(errors="replace")
+    if done.returncode and not said.startswith("no depot: it is empty\n"):
+        status = os.EX_TEMPFAIL if said.startswith("no depot: another process") else os.EX_DATAERR
+        raise Failed(status, f"{volume}: {(said or done.stderr.decode(errors='replace')).strip()}")
+    return {user: int(last) for user, last in re.findall(r'^user "([^"]*)" last ([0-9]+) ', said, re.MULTILINE)}
