@@ -324,10 +324,10 @@ The version: one line, as help is given.
 
 ## version
     $ depot --version
-    2> depot 0.38.0, proved with Rattle, logic dac8208d650f15bf
+    2> depot 0.38.1, proved with Rattle, logic dac8208d650f15bf
     [2]
     $ depot -V
-    2> depot 0.38.0, proved with Rattle, logic dac8208d650f15bf
+    2> depot 0.38.1, proved with Rattle, logic dac8208d650f15bf
     [2]
 
 Help.
@@ -380,7 +380,7 @@ Help.
     2> Without words, a program that keeps every message runs on the message on standard input.
     2> `-` is an ordinary file name; standard input is /dev/stdin.
     2>
-    2> depot 0.38.0, proved with Rattle, logic dac8208d650f15bf
+    2> depot 0.38.1, proved with Rattle, logic dac8208d650f15bf
     [2]
 
 ## help command

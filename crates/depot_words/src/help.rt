@@ -53,7 +53,7 @@ macro_rules! with_version {
     ($($before:literal,)* ; $after:literal) => {
         concat!(
             $($before,)*
-            "depot 0.38.0, proved with Rattle, logic dac8208d650f15bf",
+            "depot 0.38.1, proved with Rattle, logic dac8208d650f15bf",
             $after
         )
     };
@@ -178,10 +178,10 @@ pub const DECODE: &str = ending!(
 
 /// The end of the help of `init`.
 pub const INIT: &str = ending!(
-    "Makes the folder DIR with its first volume, 00000001.depot, and prints `made` and its name. From then\n\
-     on DIR can stand for DB in most commands, which answer as if everything were in one file. When the\n\
-     newest volume has 8 MiB, the next delivery begins another: a command opens only the volumes that it\n\
-     needs. batch, inspect, scrub and catalog take one file, so they take a volume, and not DIR.",
+    "Makes the folder DIR with its first volume, 00000001.depot, and prints `made` and its name. From\n\
+     then on DIR can stand for DB in most commands, which answer as if everything were in one file. When\n\
+     the newest volume has 8 MiB, the next delivery begins another: a command opens only the volumes that\n\
+     it needs. batch, scrub and catalog take one file, so they take a volume, and not DIR.",
     "depot init archive",
     "1, 43, 45"
 );
@@ -270,7 +270,8 @@ pub const MIGRATE: &str = ending!(
 pub const INSPECT: &str = concat!(
     "Prints `depot`, the length of its log, a line for each user, and the number and size of its\n",
     "contents; or `no depot:` and the reason, with status 1. It makes no depot. Like every command on a\n",
-    "depot it makes a missing log, and needs the right to write.\n\n",
+    "depot it makes a missing log, and needs the right to write. Of a folder it prints the path of each\n",
+    "volume and these lines, up to the first that is no depot, and at the end the number of volumes.\n\n",
     "Example:\n  depot inspect mail.depot\n\n",
     "Status 0: it is a depot. 1: it is not, or the command is refused, with the refusal's number and\n",
     "name on standard error. 2: the words are not a command, or ask for help.\n",

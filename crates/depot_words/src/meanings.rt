@@ -209,7 +209,7 @@ const MEANINGS: &[Meaning] = &[
         "`depot inspect DB` reports which; it makes no depot. If it prints `depot`, another process kept the\n\
          file open, so try again, or the disk is full. If it prints `program refused` for a user, store this\n\
          user's filter again. If it prints that there is no such file, look at the rights of the folder.\n\
-         If DB is a folder, inspect its volumes one by one. batch, scrub and catalog don't take a folder.\n\
+         If DB is a folder, it reports its volumes one by one. batch, scrub and catalog don't take a folder.\n\
          `depot scrub DB` lists the entries with altered contents. Such an entry can't be exported, and\n\
          nothing of it is written: see \"Bytes that changed on the disk\" in docs/OPERATING.md.\n\
          The command changed nothing in the depot, unless the disk failed at the last moment: then it can be\n\
