@@ -96,9 +96,6 @@ A folder that was made.
     $ echo list ann | depot batch archive
     2> refused 43 Database
     [1]
-    $ depot inspect archive
-    no depot: it is a directory
-    [1]
     $ depot scrub archive
     2> refused 43 Database
     [1]
@@ -110,6 +107,69 @@ A folder that was made.
     $ echo list ann | depot batch archive/00000001.depot
     1 message "INBOX" "" message/rfc822 66866
     = 0
+    $ rm -r archive
+
+## inspect reports each volume, and how many there are
+    $ depot init archive
+    made "archive"
+    $ depot deliver archive ann examples/newsletter.eml
+    1 message "INBOX"
+    $ rm -f archive/*-wal
+    $ depot inspect archive
+    volume "archive/00000001.depot"
+    depot
+    no log
+    user "ann" last 1 entries 1 octets 66866 program none
+    contents 1 octets 66866
+    volumes 1
+    $ : > archive/00000002.depot
+    $ depot inspect archive | tail -n 2
+    contents 1 octets 66866
+    volumes 1
+    $ depot deliver archive ann examples/invoice.eml
+    2 message "INBOX"
+    $ depot inspect archive/ | grep -v log
+    volume "archive//00000001.depot"
+    depot
+    user "ann" last 1 entries 1 octets 66866 program none
+    contents 1 octets 66866
+    volume "archive//00000002.depot"
+    depot
+    user "ann" last 2 entries 1 octets 19165 program none
+    contents 1 octets 19165
+    volumes 2
+    $ depot inspect archive > /dev/full
+    2> refused 45 Write
+    [1]
+    $ rm -r archive
+
+## inspect names the first volume that is none
+    $ depot init archive
+    made "archive"
+    $ cp archive/00000001.depot archive/00000003.depot
+    $ depot list archive ann
+    2> refused 43 Database
+    [1]
+    $ depot inspect archive | tail -n 2
+    volume "archive/00000002.depot"
+    no depot: there is no such file
+    $ ln -s 00000001.depot archive/00000002.depot
+    $ depot inspect archive | tail -n 2
+    volume "archive/00000002.depot"
+    no depot: it is no regular file
+    $ rm archive/00000002.depot && ln archive/00000001.depot archive/00000002.depot
+    $ depot inspect archive
+    volume "archive/00000001.depot"
+    no depot: it has a second name
+    [1]
+    $ rm archive/00000002.depot && echo text > archive/00000002.depot
+    $ depot inspect archive | tail -n 2
+    volume "archive/00000002.depot"
+    no depot: it is no database, or it is damaged
+    $ rm -r archive && mkdir archive
+    $ depot inspect archive
+    no depot: it is a directory
+    [1]
     $ rm -r archive
 
 ## a program is not written over the newest volume

@@ -3,7 +3,7 @@ pub mod Tasks
 pub mod Batches
 pub mod Programs
 pub mod Looks
-pub mod Made
+pub mod Told
 pub mod Obstacles
 -- private: how the code goes; no public contract names these
 pub mod Private

@@ -3,7 +3,7 @@
 //! What is done with volumes is promised by `carry_on_volumes` and `save_on_volumes` of depot_cli. Nothing is promised of
 //! the files of the system: which of them are opened is shown by these bodies, those of `Folder`, and tests.
 
-use crate::making::tell_made;
+use crate::telling::tell_made;
 use depot_cli::{PendingTask, Saving, carry_on_volumes, save_on_volumes};
 use depot_folder::{Folder, make_folder, number_of};
 use depot_jobs::{Host, Task, is_beside, tell};

@@ -62,7 +62,8 @@
 //!
 //! ## A depot in a folder
 //!
-//! The line of a folder that was made is written whole, or breaks off with status 1. What is done with the volumes of a
+//! The line of a folder that was made is written whole, or breaks off with status 1. What is reported of each volume is
+//! promised as of any file ("Looks, from the open to the close"); which volumes are reported isn't. What is done with the volumes of a
 //! folder is promised for any that follow one another ("Tasks on volumes"), and not for files of the system.
 //!
 //! By `tell_made`; `carry_on_volumes`, `save_on_volumes` of depot_cli.
@@ -72,22 +73,24 @@ mod batches;
 mod closing;
 mod folders;
 mod looks;
-mod making;
 mod opening;
 mod place;
 mod programs;
 mod streams;
 mod tasks;
+mod telling;
+mod volume_looks;
 
 use crate::batches::serve_from;
 use crate::folders::{init_folder, is_folder, perform_in_folder, save_from_folder};
 use crate::looks::look_from;
 use crate::opening::OnDisk;
-use crate::place::{Obstacle, look_at};
+use crate::place::{Obstacle, look_at, tell_obstacle};
 use crate::programs::save_from;
 use crate::streams::hold_closed;
 use crate::tasks::carry_from;
-use depot_cli::{Look, Next, PendingTask, Saving, run, tell_no_depot};
+use crate::volume_looks::inspect_folder;
+use depot_cli::{Look, Next, PendingTask, Saving, run};
 use depot_jobs::{Host, System, tell, tell_no_words, texts, words};
 use devices::{OfRead, OfWrite, Sink};
 use refusals::Refusal;
@@ -124,7 +127,7 @@ fn start<O: Sink, E: Sink>(rt: &HostRuntime, out: &mut O, err: &mut E) -> u8 {
         Next::Exit(status) => status,
         Next::Init(name) => init_folder(rt, name, out, err),
         Next::Perform(pending) => perform_task(rt, &pending, out, err),
-        Next::Inspect(name) => inspect_file(rt, name, out, err),
+        Next::Inspect(name) => inspect_depot(rt, name, out, err),
         Next::Scrub(name) => scrub_file(rt, name, out, err),
         Next::Save(saving) => save_program(rt, saving, &mut host, out, err),
         Next::Batch(name) => take_batch(rt, name, &mut host, err),
@@ -192,6 +195,14 @@ fn take_batch<H: Host, E: Sink>(rt: &HostRuntime, name: &str, host: &mut H, err:
     status
 }
 
+// Reports what a file or a folder is, and returns the status.
+fn inspect_depot<O: Sink, E: Sink>(rt: &HostRuntime, name: &str, out: &mut O, err: &mut E) -> u8 {
+    if is_folder(rt, name) {
+        return inspect_folder(rt, name, out, err);
+    }
+    inspect_file(rt, name, out, err)
+}
+
 // Reports what a file is, and returns the status. What can be seen without opening it is looked at first.
 fn inspect_file<O: Sink, E: Sink>(rt: &HostRuntime, name: &str, out: &mut O, err: &mut E) -> u8 {
     match look_at(rt, name) {
@@ -200,8 +211,7 @@ fn inspect_file<O: Sink, E: Sink>(rt: &HostRuntime, name: &str, out: &mut O, err
             let (status, _left) = look_from(rt.alloc(), name, look, on_disk(rt), out, err);
             status
         }
-        Err(Obstacle::NoDepot(why)) => tell_no_depot(out, err, why),
-        Err(Obstacle::Memory) => tell(err, &Refusal::Memory),
+        Err(obstacle) => tell_obstacle(out, err, obstacle),
     }
 }
 

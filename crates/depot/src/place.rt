@@ -9,7 +9,10 @@ ghost use Rattle.std.specs.IoError.{error_kind};
 ghost use Rattle.depot.specs.Obstacles.{obstacle_of};
 ghost use Rattle.depot.specs.Places.{IsSeenAs, database_head};
 
-use depot_cli::NoDepot;
+use depot_cli::{NoDepot, tell_no_depot};
+use depot_jobs::tell;
+use devices::Sink;
+use refusals::Refusal;
 use std::alloc::{AllocError, Global};
 use std::fs::{self, File, Metadata, OpenOptions};
 use std::io::{self, ErrorKind, Read};
@@ -48,6 +51,16 @@ impl From<io::Error> for Obstacle {
 impl From<AllocError> for Obstacle {
     fn from(_refused: AllocError) -> Obstacle {
         Obstacle::Memory
+    }
+}
+
+/// Reports why nothing is opened, and returns 1, the status of a refusal.
+pub fn tell_obstacle<O: Sink, E: Sink>(out: &mut O, err: &mut E, obstacle: Obstacle) -> u8
+    ensures { result ≡ 1 }
+{
+    match obstacle {
+        Obstacle::NoDepot(why) => tell_no_depot(out, err, why),
+        Obstacle::Memory => tell(err, &Refusal::Memory),
     }
 }
 
