@@ -25,6 +25,7 @@ const LOG_ENDING: &str = "-wal";
 const DATABASE_HEAD: &[u8; 16] = b"SQLite format 3\0";
 
 /// Why nothing at a path is opened. [`look_at`] returns it, and `depot inspect` reports it.
+#[derive(Clone, Copy)]
 pub enum Obstacle {
     /// The file is no depot.
     NoDepot(NoDepot),
