@@ -666,10 +666,10 @@ Help.
     2> Options:
     2>   -h, --help  Print help
     2>
-    2> Makes the folder DIR with its first volume, 00000001.depot, and prints `made` and its name. From then
-    2> on DIR can stand for DB in most commands, which answer as if everything were in one file. When the
-    2> newest volume has 8 MiB, the next delivery begins another: a command opens only the volumes that it
-    2> needs. batch, inspect, scrub and catalog take one file, so they take a volume, and not DIR.
+    2> Makes the folder DIR with its first volume, 00000001.depot, and prints `made` and its name. From
+    2> then on DIR can stand for DB in most commands, which answer as if everything were in one file. When
+    2> the newest volume has 8 MiB, the next delivery begins another: a command opens only the volumes that
+    2> it needs. batch, scrub and catalog take one file, so they take a volume, and not DIR.
     2>
     2> Example:
     2>   depot init archive
@@ -959,7 +959,8 @@ Help.
     2>
     2> Prints `depot`, the length of its log, a line for each user, and the number and size of its
     2> contents; or `no depot:` and the reason, with status 1. It makes no depot. Like every command on a
-    2> depot it makes a missing log, and needs the right to write.
+    2> depot it makes a missing log, and needs the right to write. Of a folder it prints the path of each
+    2> volume and these lines, up to the first that is no depot, and at the end the number of volumes.
     2>
     2> Example:
     2>   depot inspect mail.depot
