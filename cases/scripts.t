@@ -47,7 +47,7 @@ Only if: command -v nm # there is no nm
 
 ## refusals of memory, and the reasons of each
     $ "$TOP/cases/memory_refusals"
-    73 places, each with its reason
+    74 places, each with its reason
 
 ## how often commands ask for memory
 Only if: command -v cc # there is no C compiler
